@@ -1,0 +1,4 @@
+pub mod Floors
+pub mod Words
+pub mod Scales
+pub mod Wires

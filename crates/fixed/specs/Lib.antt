@@ -1,0 +1,4 @@
+pub mod Format
+pub mod Floor
+pub mod Word
+pub mod Wire

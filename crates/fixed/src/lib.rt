@@ -1,0 +1,8 @@
+// Numbers of the relay: formats, words, shifts and wires.
+pub mod floor;
+pub mod format;
+pub mod row;
+#[cfg(test)]
+mod tests;
+pub mod wire;
+pub mod word;

@@ -1,0 +1,4 @@
+pub mod Splits
+pub mod Steps
+pub mod Heads
+pub mod HeadLaws

@@ -1,0 +1,7 @@
+pub mod Bytes
+pub mod Firsts
+pub mod Refusals
+pub mod Limits
+pub mod Head
+pub mod HeadLaw
+pub mod Answer
