@@ -2,3 +2,4 @@ pub mod Format
 pub mod Floor
 pub mod Word
 pub mod Wire
+pub mod Bytes

@@ -1,4 +1,5 @@
-// Numbers of the relay: formats, words, shifts and wires.
+// Numbers of the relay: bytes, formats, words, shifts and wires.
+pub mod bytes;
 pub mod floor;
 pub mod format;
 pub mod row;

@@ -6,7 +6,7 @@ ghost use lib.Signed.{mag};
 ghost use Rattle.fixed.specs.Word.{fitsWord, Least};
 
 // The bits below the sign bit: n for n, and n - 1 for -n.
-fn magnitude(value: i64) -> u64
+pub fn magnitude(value: i64) -> u64
     ensures { λ r. ⌜ r ≡ mag value ⌝ }
 {
     if value < 0 {

@@ -19,7 +19,8 @@ use Rattle.fixed.proofs.Wires.{proper-out, proper-in}
 use Rattle.settings.specs.declared.fields.Fields.{Fields}
 use Rattle.settings.specs.declared.refusal.Refusal.{Refusal}
 use Rattle.settings.specs.declared.refusal.Refusal.the-variants.{InputWire}
-use Rattle.settings.specs.Bytes.{Split, splitRecord, u16At}
+use Rattle.fixed.specs.Bytes.{u16At}
+use Rattle.settings.specs.Records.{Split, splitRecord}
 use Rattle.settings.specs.Limits.{fieldsOf, inLimits, Counts, Words, Times}
 use Rattle.settings.specs.Head.{Head, headOf, headWith, headFrom, properInput, andThen, recordsOf, headerRecord, checkedFields, firstImproper, inputRow, inputRows}
 use Rattle.settings.specs.HeadLaw.{HeadLaw, Sound, FirstFault, headerBytes}

@@ -18,7 +18,8 @@ use Rattle.fixed.specs.declared.row.WireRow.{WireRow}
 use Rattle.settings.specs.declared.fields.Fields.{Fields}
 use Rattle.settings.specs.declared.refusal.Refusal.{Refusal}
 use Rattle.settings.specs.declared.refusal.Refusal.the-variants.{FileSize, Version, HeaderLength, HeaderField, InputWire}
-use Rattle.settings.specs.Bytes.{u16At, Split, splitRecord}
+use Rattle.fixed.specs.Bytes.{u16At}
+use Rattle.settings.specs.Records.{Split, splitRecord}
 use Rattle.settings.specs.Limits.{fieldsOf, inLimits}
 use Rattle.settings.specs.Head.{inputRow, inputRows, isHeader, recordsOf, headerRecord, firstImproper, unlessImproper, checkedFields, Head, andThen, headWith, headFrom, headOf, inputsOver}
 
@@ -90,16 +91,16 @@ head-ok file xs s h p q r =
     ∙ ap (λ o. andThen o (λ k. Ok (headWith s k))) r
 
 -- what the call leaves: the inputs in front, the rest of the file after the header
-pub head-in : (file xs : List ℕ) (s : Split) (h : Fields) (before after : List WireRow)
-    → recordsOf file ≡ Ok xs → headerRecord (splitRecord xs) ≡ Ok s → checkedFields (s .front) ≡ Ok h
+pub head-in : (file xs : List ℕ) (s : Split) (h : Fields) (before after : List WireRow) (start : ℕ)
+    → start ≡ 3 + length (s .front) → recordsOf file ≡ Ok xs → headerRecord (splitRecord xs) ≡ Ok s → checkedFields (s .front) ≡ Ok h
     → after ≡ inputRows (s .front) (h .inputs) ++ drop (h .inputs) before
-    → (Ok (record { header = h; inputs = take (h .inputs) after; rest = drop (3 + length (s .front)) file }) ≡ headOf file)
+    → (Ok (record { header = h; inputs = take (h .inputs) after; rest = drop start file }) ≡ headOf file)
     × (after ≡ inputsOver (headOf file) before)
-head-in file xs s h before after p q r t =
+head-in file xs s h before after start at p q r t =
     let ok = head-ok file xs s h p q r in
     let n = length-map-counting (inputRow (s .front)) 0 (h .inputs) in
     let front : take (h .inputs) after ≡ inputRows (s .front) (h .inputs) = ap (take (h .inputs)) t ∙ take-at _ _ (h .inputs) n in
-    let rest : drop (3 + length (s .front)) file ≡ s .rest =
+    let rest : drop start file ≡ s .rest =
     ap (λ k. drop k file) (omega arith) ∙ sym (drop-drop (2 + length (s .front)) 1 file)
     ∙ ap (drop (2 + length (s .front))) (sym (records-ok file xs p)) ∙ sym (record-ok xs s q .1) in
     let table : after ≡ inputRows (s .front) (h .inputs) ++ drop (length (inputRows (s .front) (h .inputs))) before =

@@ -2,12 +2,9 @@
 use mathlib.Core.Path.{_≡_, refl, ap, sym, subst, _∙_}
 use mathlib.Core.Logic.{⊎-elim}
 use mathlib.Core.Bool.{Bool, true, false, cond}
-use mathlib.Core.List.{List, [], _∷_, _++_}
 use Prim.Native.Nat.{ℕ, zero, suc, _+_, _-_, _<_, _≤_}
 use native.Mathlib.Omega.{arith}
-use lib.ListN.{length, set, drop}
 use Rattle.std.specs.declared.option.Option.the-variants.{Some, None}
-use Rattle.std.proofs.shelf.Lists.{drop-more, set-at, append-assoc}
 use Rattle.std.proofs.shelf.Tests.{cases-eq}
 use Rattle.settings.specs.Firsts.{firstFailing}
 
@@ -45,9 +42,3 @@ first-some test i (suc n) k e = by (test i) refl e (first-some test (i + 1) n k)
     by false p q rest =
         let s : i ≡ k = cc in
         (omega arith, omega arith, subst (λ j. test j ≡ false) s p, λ j h l. absurd (omega arith))
-
--- one more place of ys is written over
-pub fill-more : {X : Type 0} (xs ys : List X) (i : ℕ) (y d : X) → length xs ≡ i → i < length ys
-    → set (xs ++ drop i ys) i y ≡ (xs ++ (y ∷ [])) ++ drop (i + 1) ys
-fill-more xs ys i y d e h =
-    ap (λ t. set (xs ++ t) i y) (drop-more ys i d h) ∙ set-at xs _ _ y i e ∙ sym (append-assoc xs (y ∷ []) (drop (i + 1) ys))

@@ -14,7 +14,8 @@ use Rattle.fixed.specs.Wire.{isProper}
 use Rattle.settings.specs.declared.fields.Fields.{Fields}
 use Rattle.settings.specs.declared.refusal.Refusal.{Refusal}
 use Rattle.settings.specs.declared.refusal.Refusal.the-variants.{FileSize, Version, HeaderLength, HeaderField, InputWire}
-use Rattle.settings.specs.Bytes.{u32At, i32At, Split, splitRecord}
+use Rattle.fixed.specs.Bytes.{u32At, i32At}
+use Rattle.settings.specs.Records.{Split, splitRecord}
 use Rattle.settings.specs.Firsts.{firstFailing}
 use Rattle.settings.specs.Limits.{fieldsOf, inLimits}
 

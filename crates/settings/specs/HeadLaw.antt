@@ -6,7 +6,7 @@ use lib.ListN.{length, getD, take, drop}
 use Rattle.std.specs.declared.result.Result.the-variants.{Ok, Err}
 use Rattle.fixed.specs.Wire.{Proper, noRow}
 use Rattle.settings.specs.declared.refusal.Refusal.the-variants.{InputWire}
-use Rattle.settings.specs.Bytes.{u16At}
+use Rattle.fixed.specs.Bytes.{u16At}
 use Rattle.settings.specs.Limits.{fieldsOf, Counts, Words, Times}
 use Rattle.settings.specs.Head.{Head, headOf, inputRow}
 

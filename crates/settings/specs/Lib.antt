@@ -1,4 +1,4 @@
-pub mod Bytes
+pub mod Records
 pub mod Firsts
 pub mod Refusals
 pub mod Limits

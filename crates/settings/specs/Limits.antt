@@ -6,7 +6,7 @@ use lib.Dec.{leb}
 use lib.ListN.{getD}
 use Rattle.fixed.specs.Format.{IsFormat, isFormat}
 use Rattle.fixed.specs.Wire.{mostError}
-use Rattle.settings.specs.Bytes.{u16At, u32At, i32At}
+use Rattle.fixed.specs.Bytes.{u16At, u32At, i32At}
 use Rattle.settings.specs.declared.fields.Fields.{Fields}
 
 -- the first 21 bytes of a header record

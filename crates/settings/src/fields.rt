@@ -1,11 +1,10 @@
 // The fields of a header as they stand in a file.
 ghost use mathlib.Core.Path.{_≡_};
-ghost use Prim.Native.Nat.{_≤_};
-ghost use lib.ListN.{length};
 ghost use Rattle.settings.specs.Limits.{fieldsOf, countsFit, wordsFit, timesFit};
-use crate::bytes::i32_at;
-use crate::bytes::u16_at;
-use crate::bytes::u32_at;
+use fixed::bytes::i32_at;
+use fixed::bytes::u8_at;
+use fixed::bytes::u16_at;
+use fixed::bytes::u32_at;
 use fixed::format::Format;
 use fixed::wire::checks::MOST_ERROR;
 
@@ -25,15 +24,14 @@ pub struct Fields {
 
 impl Fields {
     pub(crate) fn read(bytes: &[u8]) -> Fields
-        requires { ⌜ 21 ≤ length (now bytes) ⌝ }
         ensures { λ r. ⌜ r ≡ fieldsOf (now (bytes .entry)) ⌝ }
     {
         Fields {
-            inputs: bytes[0],
-            word: bytes[1],
-            fraction: bytes[2],
-            accumulator: bytes[3],
-            stages: bytes[4],
+            inputs: u8_at(bytes, 0),
+            word: u8_at(bytes, 1),
+            fraction: u8_at(bytes, 2),
+            accumulator: u8_at(bytes, 3),
+            stages: u8_at(bytes, 4),
             allowed_error: u32_at(bytes, 5),
             level: i32_at(bytes, 9),
             rise: u16_at(bytes, 13),

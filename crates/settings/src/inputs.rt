@@ -1,22 +1,21 @@
 // The inputs of a header record as wire rows.
 ghost use mathlib.Core.Path.{_≡_};
 ghost use mathlib.Core.List.{_++_};
-ghost use Prim.Native.Nat.{_+_, _*_, _≤_};
-ghost use lib.ListN.{length, drop};
+ghost use Prim.Native.Nat.{_≤_};
+ghost use lib.ListN.{drop};
 ghost use Rattle.fixed.specs.Wire.{isProper};
 ghost use Rattle.settings.specs.Firsts.{firstFailing};
 ghost use Rattle.settings.specs.Head.{inputRow, inputRows};
-use crate::bytes::i32_at;
-use crate::bytes::u32_at;
+use fixed::bytes::i32_at;
+use fixed::bytes::u32_at;
 use fixed::format::Format;
 use fixed::row::WireRow;
 use fixed::wire::Wire;
 
 fn input_row(bytes: &[u8], i: u8) -> WireRow
-    requires { ⌜ 33 + 12 * i ≤ length (now bytes) ⌝ }
     ensures { λ r. ⌜ r ≡ inputRow (now (bytes .entry)) i ⌝ }
 {
-    let start = 21 + 12 * usize::from(i);
+    let start = 21 + 12 * u32::from(i);
     WireRow {
         low: i32_at(bytes, start),
         high: i32_at(bytes, start + 4),
@@ -26,7 +25,6 @@ fn input_row(bytes: &[u8], i: u8) -> WireRow
 
 // The first input that is no proper wire of the format.
 pub(crate) fn first_improper(bytes: &[u8], format: Format, count: u8) -> Option<u8>
-    requires { ⌜ 21 + 12 * count ≤ length (now bytes) ⌝ }
     ensures { λ r. ⌜ r ≡ firstFailing (λ i. isProper (format .word) (inputRow (now (bytes .entry)) i)) 0 count ⌝ }
 {
     for i in 0..count {
@@ -39,8 +37,7 @@ pub(crate) fn first_improper(bytes: &[u8], format: Format, count: u8) -> Option<
 
 // The inputs in front of a lent table, the rest of it as it was.
 pub(crate) fn write_inputs(bytes: &[u8], count: u8, rows: &mut [WireRow; 64])
-    requires room { ⌜ count ≤ 64 ⌝ }
-    requires whole { ⌜ 21 + 12 * count ≤ length (now bytes) ⌝ }
+    requires { ⌜ count ≤ 64 ⌝ }
     ensures { λ _. ⌜ now (rows .exit) ≡ inputRows (now (bytes .entry)) count ++ drop count (now (rows .entry)) ⌝ }
 {
     for i in 0..count {

@@ -1,5 +1,4 @@
 // The settings file: its records, its header, and why it is refused.
-pub mod bytes;
 pub mod fields;
 pub mod head;
 pub mod header;

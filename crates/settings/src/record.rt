@@ -1,7 +1,7 @@
 // Records, each led by its length in two bytes.
 ghost use mathlib.Core.Path.{_≡_};
 ghost use Rattle.std.specs.Options.{mapped};
-ghost use Rattle.settings.specs.Bytes.{splitRecord};
+ghost use Rattle.settings.specs.Records.{splitRecord};
 
 // A record, and the bytes after it.
 #[derive(Clone, Copy)]

@@ -4,7 +4,7 @@ ghost use mathlib.Core.Bool.{true};
 ghost use Prim.Native.Nat.{ℕ};
 ghost use lib.ListN.{drop};
 ghost use Rattle.std.specs.Results.{mapped};
-ghost use Rattle.settings.specs.Bytes.{splitRecord};
+ghost use Rattle.settings.specs.Records.{splitRecord};
 ghost use Rattle.settings.specs.Head.{recordsOf, isHeader, headerRecord, checkedFields, headOf, inputsOver};
 ghost use Rattle.settings.specs.HeadLaw.{HeadLaw};
 ghost use Rattle.settings.specs.Answer.{headIn};

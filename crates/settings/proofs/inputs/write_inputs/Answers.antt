@@ -4,7 +4,7 @@ use lib.ListN.{length}
 use Rattle.std.proofs.shelf.Counted.{length-map-counting, map-counting-more}
 use Rattle.fixed.specs.Wire.{noRow}
 use Rattle.settings.specs.Head.{inputRow, inputRows}
-use Rattle.settings.proofs.Steps.{fill-more}
+use Rattle.fixed.proofs.Tables.{fill-more}
 use Rattle.settings.proofs.inputs.write_inputs.Needs as need
 
 pub loop-i-again : need.loop-i-again

@@ -1,31 +1,24 @@
 use mathlib.Core.Path.{_≡_, sym, ap, _∙_, subst}
-use Prim.Native.Nat.{_≤_, _+_, _*_}
 use native.Mathlib.Omega.{arith}
 use mathlib.Core.List.{_++_}
-use lib.ListN.{length, getD, drop}
+use lib.ListN.{drop}
 use borrow.Author.Needs.{needs}
-use Rattle.settings.specs.Bytes.{Split}
+use Rattle.settings.specs.Records.{Split}
 use Rattle.settings.specs.declared.fields.Fields.{Fields}
 use Rattle.settings.specs.Head.{inputRows}
 use Rattle.settings.proofs.HeadLaws.{head-law}
-use Rattle.settings.proofs.Heads.{record-ok, fields-ok, head-in}
+use Rattle.settings.proofs.Heads.{head-in}
 use Rattle.settings.proofs.head.reads.read_head.Needs as need
 
 pub write-inputs-requires : need.write-inputs-requires
-write-inputs-requires c κs =
-    let b = c .in-Continue-split .split .front .now in
-    let s : Split = record { front = b; rest = c .in-Continue-split .split .rest .now } in
-    let w = record-ok (c .in-Continue-records .field-0 .now) s (sym (c .in-Continue-split .ensures tt)) .0 in
-    let f = fields-ok b (c .in-Continue-header .header .fields) (sym (c .in-Continue-header .ensures tt)) .2 in
-    let n = ap (λ (h : Fields). h .inputs) (c .fields .ensures ∙ f) in
-    record { room = omega (arith, ap (λ (h : Fields). h .inputs) (c .fields .ensures)); whole = omega (arith, n, w) }
+write-inputs-requires c κs = omega (arith, ap (λ (h : Fields). h .inputs) (c .fields .ensures))
 
 pub returns : need.returns
 returns c =
     let s : Split = record { front = c .in-Continue-split .split .front .now; rest = c .in-Continue-split .split .rest .now } in
     let h = c .in-Continue-header .header .fields in
-    let t = head-in (c .args .file .now) (c .in-Continue-records .field-0 .now) s h (c .args .rows .now) (c .write-inputs .last .rows)
-    (sym (c .in-Continue-records .ensures tt)) (sym (c .in-Continue-split .ensures tt)) (sym (c .in-Continue-header .ensures tt))
+    let t = head-in (c .args .file .now) (c .in-Continue-records .field-0 .now) s h (c .args .rows .now) (c .write-inputs .last .rows) _
+    (omega arith) (sym (c .in-Continue-records .ensures tt)) (sym (c .in-Continue-split .ensures tt)) (sym (c .in-Continue-header .ensures tt))
     (c .write-inputs .ensures ∙ ap (λ (k : Fields). inputRows (s .front) (k .inputs) ++ drop (k .inputs) (c .args .rows .now)) (c .fields .ensures)) in
     record { answer = t .0; table = t .1; law = head-law (c .args .file .now) }
 

@@ -1,0 +1,8 @@
+// Ranges of sums.
+
+// From the least to the greatest value that a sum can have.
+#[derive(Clone, Copy, PartialEq, Eq, Debug)]
+pub struct Range {
+    pub low: i64,
+    pub high: i64,
+}
