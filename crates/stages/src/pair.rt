@@ -29,12 +29,11 @@ pub impl<A: KindSet, B: KindSet> KindSet for Pair<A, B> as PairKinds {
         rows: &[WireRow],
         out: &mut [WireRow; 64],
     ) -> Result<Shape, KindRefusal> {
-        if self.first.knows(number) {
-            self.first
-                .judge(number, bytes, accumulator, before, rows, out)
+        let Pair { first, second } = self;
+        if first.knows(number) {
+            first.judge(number, bytes, accumulator, before, rows, out)
         } else {
-            self.second
-                .judge(number, bytes, accumulator, before, rows, out)
+            second.judge(number, bytes, accumulator, before, rows, out)
         }
     }
 
@@ -47,12 +46,11 @@ pub impl<A: KindSet, B: KindSet> KindSet for Pair<A, B> as PairKinds {
         codes: &[i32],
         out: &mut [i32; 64],
     ) -> Result<usize, RunRefusal> {
-        if self.first.knows(number) {
-            self.first
-                .run(number, bytes, accumulator, before, codes, out)
+        let Pair { first, second } = self;
+        if first.knows(number) {
+            first.run(number, bytes, accumulator, before, codes, out)
         } else {
-            self.second
-                .run(number, bytes, accumulator, before, codes, out)
+            second.run(number, bytes, accumulator, before, codes, out)
         }
     }
 }
