@@ -3,3 +3,4 @@ pub mod Words
 pub mod Scales
 pub mod Wires
 pub mod Tables
+pub mod Chains

@@ -3,3 +3,4 @@ pub mod Floor
 pub mod Word
 pub mod Wire
 pub mod Bytes
+pub mod Steps

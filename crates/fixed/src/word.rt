@@ -5,8 +5,8 @@ ghost use lib.Dec.{ltb};
 ghost use lib.Signed.{mag};
 ghost use Rattle.fixed.specs.Word.{fitsWord, Least};
 
-// The bits below the sign bit: n for n, and n - 1 for -n.
-pub fn magnitude(value: i64) -> u64
+// The bits below the sign as a number, inverted where the sign is set: n for n, and n - 1 for -n.
+pub fn below_sign(value: i64) -> u64
     ensures { λ r. ⌜ r ≡ mag value ⌝ }
 {
     if value < 0 {
@@ -21,8 +21,8 @@ pub(crate) fn length(low: i64, high: i64) -> u32
     ensures least { λ r. ⌜ Least low high (r + 1) ⌝ }
     ensures bound { λ r. ⌜ r ≤ 64 ⌝ }
 {
-    let below = magnitude(low.min(0)).leading_zeros();
-    let above = magnitude(high.max(0)).leading_zeros();
+    let below = below_sign(low.min(0)).leading_zeros();
+    let above = below_sign(high.max(0)).leading_zeros();
     64 - below.min(above)
 }
 

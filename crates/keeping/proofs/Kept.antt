@@ -11,7 +11,7 @@ use Rattle.std.specs.declared.result.Result.the-variants.{Ok, Err}
 use Rattle.std.proofs.shelf.Tests.{eqb-true}
 use Rattle.fixed.specs.declared.row.WireRow.{WireRow}
 use Rattle.stages.specs.declared.shape.KindRefusal.the-variants.{Size, Length}
-use Rattle.stages.specs.Kind.{Setting, sizeOf, Kind}
+use Rattle.stages.specs.Kind.{Setting, sizeOf, Exact, Kind}
 use Rattle.stages.specs.Containment.{AllProper, Inside, Held, Given, Leads, Lawful}
 use Rattle.keeping.specs.Keeping.{judged, keeping}
 
@@ -36,7 +36,7 @@ judged-ok within bytes x y e = by within (eqb (length bytes) 2) refl e
 
 pub lawful-keeping : {within : ℕ → ℕ → Bool} {outputs : ℕ → ℕ → ℕ} {wires : ℕ → List WireRow → List WireRow} {codes : ℕ → List ℤ → List ℤ}
     → Keeps within outputs wires codes → Lawful (keeping within outputs wires codes)
-lawful-keeping {within} {outputs} {wires} {codes} k = record { leads = leads; counts = counts }
+lawful-keeping {within} {outputs} {wires} {codes} k = record { leads = leads; code-counts = code-counts; exact-counts = exact-counts }
   where
     kind : Kind
     kind = keeping within outputs wires codes
@@ -59,10 +59,17 @@ lawful-keeping {within} {outputs} {wires} {codes} k = record { leads = leads; co
               subst (λ (zs : List ℤ). Held (s .before .fraction) d (wires p xs) zs (codes p Xs)) same (k .held (s .before .fraction) d p xs cs Xs h);
         })
 
-    counts : (s : Setting) (xs ys : List WireRow) → Given s xs → kind .wires s xs ≡ Ok ys
+    code-counts : (s : Setting) (xs ys : List WireRow) → Given s xs → kind .wires s xs ≡ Ok ys
         → (cs ds : List ℤ) → length cs ≡ s .before .count → kind .code s cs ≡ Ok ds → length ds ≡ kind .after s .count
-    counts s xs ys g e cs ds n c =
+    code-counts s xs ys g e cs ds n c =
         let p = sizeOf (s .bytes) in
         let t = judged-ok (within p (s .before .count)) (s .bytes) (wires p xs) ys e in
         let same : codes p cs ≡ ds = cc in
         ap length (sym same) ∙ k .many-codes p _ cs (t .0) n
+
+    exact-counts : (s : Setting) (xs ys : List WireRow) → Given s xs → kind .wires s xs ≡ Ok ys
+        → (x : Exact) → length (x .values) ≡ s .before .count → length (kind .exact s x .values) ≡ kind .after s .count
+    exact-counts s xs ys g e x n =
+        let p = sizeOf (s .bytes) in
+        let t = judged-ok (within p (s .before .count)) (s .bytes) (wires p xs) ys e in
+        k .many-codes p _ (x .values) (t .0) n

@@ -1,6 +1,7 @@
 // The kinds of this relay, as sets side by side.
 ghost use mathlib.Core.Path.{_≡_};
 ghost use Rattle.std.specs.Options.{isSome};
+ghost use Rattle.stages.specs.Network.{NetworkLaw};
 ghost use Rattle.kinds.specs.Base.{baseKinds};
 use keeping::largest::Largest;
 use keeping::largest::LargestKinds;
@@ -13,6 +14,7 @@ use rows::full::FullKinds;
 use rows::taps::Taps;
 use rows::taps::TapsKinds;
 use stages::kind_set::KindSet;
+use stages::network::network_law;
 use stages::pair::Pair;
 use stages::pair::PairKinds;
 
@@ -44,4 +46,11 @@ pub fn is_known(number: u8) -> bool
     ensures { λ r. ⌜ r ≡ isSome (baseKinds number) ⌝ }
 {
     BASE.knows(number)
+}
+
+// The law of every network of these kinds.
+pub fn base_law()
+    ensures { λ _. ⌜ NetworkLaw baseKinds ⌝ }
+{
+    network_law(&BASE)
 }

@@ -8,15 +8,11 @@ use lib.ListN.{length, take, drop, set, length-take, length-set}
 use Rattle.std.specs.declared.result.Result.{Result}
 use Rattle.std.specs.declared.result.Result.the-variants.{Ok, Err}
 use Rattle.std.proofs.shelf.Lists.{take-more-set, take-at}
+use Rattle.fixed.proofs.Chains.{then-ok, then-then}
 use Rattle.fixed.proofs.Tables.{fill-more}
-use Rattle.stages.specs.Kind.{mapped, over}
-use Rattle.stages.proofs.Networks.{then-ok}
-use Rattle.stages.specs.Network.{andThen}
+use Rattle.stages.specs.Kind.{mapOk, over}
+use Rattle.fixed.specs.Steps.{andThen}
 use Rattle.rows.specs.Layout.{outputsFrom}
-
-then-then : {A B C E : Type 0} (r : Result A E) (f : A → Result B E) (g : B → Result C E) → andThen (andThen r f) g ≡ andThen r (λ x. andThen (f x) g)
-then-then (Ok x) f g = refl
-then-then (Err e) f g = refl
 
 module _ {Y E : Type 0} (f : ℕ → Result Y E) where
   -- the outputs before o stand in front of the table, and the rest gives the answer
@@ -84,6 +80,6 @@ module _ {Y E : Type 0} (f : ℕ → Result Y E) where
       let z : a .0 ∷ b .0 ≡ ys = cc (b .2) in
       ap length (sym z) ∙ ap suc (outputs-many (i + 1) n (b .0) (b .1))
 
-  pub outputs-count : (r : Result (List Y) E) (n : ℕ) → ((ys : List Y) → r ≡ Ok ys → length ys ≡ n) → _≡_ {A = Result (Unit {0}) E} (Ok tt) (mapped (λ _. tt) r) → Ok n ≡ mapped length r
+  pub outputs-count : (r : Result (List Y) E) (n : ℕ) → ((ys : List Y) → r ≡ Ok ys → length ys ≡ n) → _≡_ {A = Result (Unit {0}) E} (Ok tt) (mapOk (λ _. tt) r) → Ok n ≡ mapOk length r
   outputs-count (Ok ys) n many e = ap Ok (sym (many ys refl))
   outputs-count (Err d) n many e = let z : _≡_ {A = ℕ} 0 1 = cc in absurd (omega arith)

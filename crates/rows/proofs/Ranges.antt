@@ -18,13 +18,13 @@ use Rattle.fixed.specs.Floor.{floorShift}
 use Rattle.fixed.specs.Word.{fitsWord}
 use Rattle.fixed.specs.declared.row.WireRow.{WireRow}
 use Rattle.stages.specs.Containment.{AllProper, InWire, Inside}
-use Rattle.rows.specs.declared.range.Range.{Range}
+use Rattle.rows.specs.declared.range.SumRange.{SumRange}
 use Rattle.rows.specs.Range.{rangePlus, rangeTimes, rangeFits, rangeShift}
 use Rattle.rows.specs.Row.{dot}
 use Rattle.rows.specs.Walk.{walked, tested}
 
 -- the number lies in the range
-abbrev pub InRange : Range → ℤ → Type 0
+abbrev pub InRange : SumRange → ℤ → Type 0
 InRange r z = (r .low ≤ℤ z) × (z ≤ℤ r .high)
 
 -- a word that holds both ends holds what lies between them
@@ -33,13 +33,13 @@ between-fits : (w : ℕ) (low high z : ℤ) → fitsWord w low ≡ true → fits
 between-fits zero low high z e f h k = absurd (clash e)
 between-fits (suc n) low high z e f h k = grind (arith, ints, tells)
 
-pub in-fits : (w : ℕ) (r : Range) (z : ℤ) → rangeFits w r ≡ true → InRange r z → fitsWord w z ≡ true
+pub in-fits : (w : ℕ) (r : SumRange) (z : ℤ) → rangeFits w r ≡ true → InRange r z → fitsWord w z ≡ true
 in-fits w r z e h =
     let p = and-parts (fitsWord w (r .low)) (fitsWord w (r .high)) e in
     between-fits w (r .low) (r .high) z (p .0) (p .1) (h .0) (h .1)
 
 -- sums, products and floors of what lies in ranges
-in-plus : (r t : Range) (y z : ℤ) → InRange r y → InRange t z → InRange (rangePlus r t) (y +ℤ z)
+in-plus : (r t : SumRange) (y z : ℤ) → InRange r y → InRange t z → InRange (rangePlus r t) (y +ℤ z)
 in-plus r t y z h k = (omega (arith, ints), omega (arith, ints))
 
 -- a product grows with its second factor, or falls where the first is negative
@@ -66,7 +66,7 @@ floor-mono k (pos a) (negsuc b) h = absurd (h .le)
 floor-mono k (negsuc a) (pos b) h = omega (arith, ints)
 floor-mono k (negsuc a) (negsuc b) h = let l : b ≤ a = omega (arith, ints) in omega (arith, ints, shr-mono k l)
 
-pub in-shift : (r : Range) (k : ℕ) (z : ℤ) → InRange r z → InRange (rangeShift r k) (floorShift z k)
+pub in-shift : (r : SumRange) (k : ℕ) (z : ℤ) → InRange r z → InRange (rangeShift r k) (floorShift z k)
 in-shift r k z h = (floor-mono k (r .low) z (h .0), floor-mono k z (r .high) (h .1))
 
 -- a walk that goes on has passed its test
@@ -81,12 +81,12 @@ last-sum test a z e =
     let s : a ≡ z = cc (p .1) in
     sym s ∙ sym (+ℤ-idr a)
 
-last-in : (w : ℕ) (r t : Range) (a : ℤ) → InRange r a → tested (rangeFits w) r ≡ Some t
+last-in : (w : ℕ) (r t : SumRange) (a : ℤ) → InRange r a → tested (rangeFits w) r ≡ Some t
     → (z : ℤ) × (tested (fitsWord w) a ≡ Some z) × InRange t z
 last-in w r t a i e =
     let p = passed (rangeFits w r) (Some r) t e in
     let s : r ≡ t = cc (p .1) in
-    (a, rw (in-fits w r a (p .0) i), subst (λ (v : Range). InRange v a) s i)
+    (a, rw (in-fits w r a (p .0) i), subst (λ (v : SumRange). InRange v a) s i)
 
 -- a walk of codes that passes gives the sum of products
 pub walk-sum : (test : ℤ → Bool) (a z : ℤ) (qs cs : List ℤ) → walked test _+ℤ_ _*ℤ_ a qs cs ≡ Some z → z ≡ a +ℤ dot qs cs
@@ -97,7 +97,7 @@ walk-sum test a z (q ∷ qs) (c ∷ cs) e =
     walk-sum test (a +ℤ q *ℤ c) z qs cs (p .1) ∙ +ℤ-assoc a (q *ℤ c) (dot qs cs)
 
 -- where the walk of ranges passes, so does the walk of codes in them, and its sum is in the range of the sums
-pub walk-in : (w : ℕ) (r t : Range) (a : ℤ) (qs : List ℤ) (xs : List WireRow) (cs : List ℤ) → InRange r a → Inside xs cs
+pub walk-in : (w : ℕ) (r t : SumRange) (a : ℤ) (qs : List ℤ) (xs : List WireRow) (cs : List ℤ) → InRange r a → Inside xs cs
     → walked (rangeFits w) rangePlus rangeTimes r qs xs ≡ Some t
     → (z : ℤ) × (walked (fitsWord w) _+ℤ_ _*ℤ_ a qs cs ≡ Some z) × InRange t z
 walk-in w r t a [] xs cs i all e = last-in w r t a i e

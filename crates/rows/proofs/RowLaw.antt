@@ -21,7 +21,7 @@ use Rattle.fixed.specs.Word.{fitsWord}
 use Rattle.fixed.specs.Wire.{Proper, mostError}
 use Rattle.fixed.specs.declared.row.WireRow.{WireRow}
 use Rattle.stages.specs.Containment.{AllProper, InWire, Inside, Within, Held}
-use Rattle.rows.specs.declared.range.Range.{Range}
+use Rattle.rows.specs.declared.range.SumRange.{SumRange}
 use Rattle.rows.specs.declared.scales.Scales.{Scales}
 use Rattle.rows.specs.Scales.{dropped}
 use Rattle.rows.specs.Range.{rangeFits, rangeShift}
@@ -126,7 +126,7 @@ bound t n f D p r y h i j =
 
 -- ---- the checks that a wire has passed
 record Passed (s : Scales) (ws : List ℤ) (b : ℤ) (xs : List WireRow) (y : WireRow) : Type 0 where
-  pub range : Range
+  pub range : SumRange
   pub sums : rangeSum s ws b xs ≡ Some range
   pub fits : rangeFits (s .wy) (rangeShift range (dropped s)) ≡ true
   pub most : rowError s ws b xs ≤ mostError
@@ -143,7 +143,7 @@ row-passed : (s : Scales) (o : ℕ) (ws : List ℤ) (b : ℤ) (xs : List WireRow
 row-passed s o ws b xs y e =
     by (rangeSum s ws b xs) refl (cond-ok (allFit (s .ww) (weightCodes s ws)) (wired s o (rowError s ws b xs) (rangeSum s ws b xs)) _ y e .1)
   where
-    by : (m : Option Range) → rangeSum s ws b xs ≡ m → wired s o (rowError s ws b xs) m ≡ Ok y → Passed s ws b xs y
+    by : (m : Option SumRange) → rangeSum s ws b xs ≡ m → wired s o (rowError s ws b xs) m ≡ Ok y → Passed s ws b xs y
     by None p q = let z : _≡_ {A = ℕ} 0 1 = cc in absurd (omega arith)
     by (Some r) p q =
         let v = wireWith (rangeShift r (dropped s) .low) (rangeShift r (dropped s) .high) (rowError s ws b xs) in

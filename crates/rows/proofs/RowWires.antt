@@ -14,7 +14,7 @@ use Rattle.fixed.specs.Wire.{mostError}
 use Rattle.fixed.specs.declared.row.WireRow.{WireRow}
 use Rattle.stages.specs.declared.shape.KindRefusal.{KindRefusal}
 use Rattle.stages.specs.declared.shape.KindRefusal.the-variants.{WeightCode, RangeSum, RangeOutput, WireError}
-use Rattle.rows.specs.declared.range.Range.{Range}
+use Rattle.rows.specs.declared.range.SumRange.{SumRange}
 use Rattle.rows.specs.declared.scales.Scales.{Scales}
 use Rattle.rows.specs.Scales.{dropped}
 use Rattle.rows.specs.Range.{rangeFits, rangeShift}
@@ -29,10 +29,10 @@ abbrev pub unlessFar : ℕ → ℤ → ℤ → ℕ → Result WireRow KindRefusa
 unlessFar o low high e = cond (leb e mostError) (Ok (wireWith low high e)) (Err (WireError o))
 
 -- the ends of a range that fits the output word
-abbrev pub endsOf : Scales → Range → Option (ℤ × ℤ)
+abbrev pub endsOf : Scales → SumRange → Option (ℤ × ℤ)
 endsOf s r = cond (rangeFits (s .wy) (rangeShift r (dropped s))) (Some (rangeShift r (dropped s) .low, rangeShift r (dropped s) .high)) None
 
-wired-ends : (s : Scales) (o e : ℕ) (r : Range) (low high : ℤ) → endsOf s r ≡ Some (low, high)
+wired-ends : (s : Scales) (o e : ℕ) (r : SumRange) (low high : ℤ) → endsOf s r ≡ Some (low, high)
     → wired s o e (Some r) ≡ unlessFar o low high e
 wired-ends s o e r low high = by (rangeFits (s .wy) (rangeShift r (dropped s)))
   where
@@ -44,7 +44,7 @@ wired-ends s o e r low high = by (rangeFits (s .wy) (rangeShift r (dropped s)))
     by false p = let z : _≡_ {A = ℕ} 0 1 = cc in absurd (omega arith)
 
 -- all checks but the error's
-pub row-wire : (s : Scales) (o : ℕ) (ws : List ℤ) (b : ℤ) (xs : List WireRow) (r : Range) (low high : ℤ)
+pub row-wire : (s : Scales) (o : ℕ) (ws : List ℤ) (b : ℤ) (xs : List WireRow) (r : SumRange) (low high : ℤ)
     → allFit (s .ww) (weightCodes s ws) ≡ true → rangeSum s ws b xs ≡ Some r → endsOf s r ≡ Some (low, high)
     → rowWire s o ws b xs ≡ unlessFar o low high (rowError s ws b xs)
 row-wire s o ws b xs r low high p q t =

@@ -14,7 +14,7 @@ use borrow.Author.Tests.{clash}
 use Rattle.std.proofs.shelf.Ways.{tells}
 use Rattle.std.proofs.shelf.Tests.{and-parts, and-from}
 use Rattle.fixed.specs.Word.{fitsWord}
-use Rattle.rows.specs.declared.range.Range.{Range}
+use Rattle.rows.specs.declared.range.SumRange.{SumRange}
 use Rattle.rows.specs.Range.{rangeFits}
 
 -- a wider word holds what a narrower one does
@@ -23,7 +23,7 @@ fits-wider zero w z h e = absurd (clash e)
 fits-wider (suc j) zero z h e = absurd (omega arith)
 fits-wider (suc j) (suc k) z h e = let i : j ≤ k = omega arith in let m = pow-mono i in grind (arith, ints, tells)
 
-pub range-wider : (v w : ℕ) (r : Range) → v ≤ w → rangeFits v r ≡ true → rangeFits w r ≡ true
+pub range-wider : (v w : ℕ) (r : SumRange) → v ≤ w → rangeFits v r ≡ true → rangeFits w r ≡ true
 range-wider v w r h e =
     let p = and-parts (fitsWord v (r .low)) (fitsWord v (r .high)) e in
     and-from _ _ (fits-wider v w (r .low) h (p .0)) (fits-wider v w (r .high) h (p .1))

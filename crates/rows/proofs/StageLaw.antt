@@ -12,6 +12,7 @@ use Rattle.std.specs.declared.option.Option.{Option}
 use Rattle.std.specs.declared.option.Option.the-variants.{Some, None}
 use Rattle.std.specs.declared.result.Result.{Result}
 use Rattle.std.specs.declared.result.Result.the-variants.{Ok, Err}
+use Rattle.std.proofs.shelf.Counted.{length-map-counting}
 use Rattle.std.proofs.shelf.Ways.{tells}
 use Rattle.fixed.specs.Format.{IsFormat}
 use Rattle.fixed.specs.Wire.{Proper}
@@ -20,9 +21,9 @@ use Rattle.stages.specs.declared.shape.Shape.{Shape}
 use Rattle.stages.specs.declared.shape.KindRefusal.{KindRefusal}
 use Rattle.stages.specs.declared.shape.KindRefusal.the-variants.{Format, Length}
 use Rattle.stages.specs.Kind.{Setting, Exact, exactly}
-use Rattle.stages.specs.Network.{andThen}
+use Rattle.fixed.specs.Steps.{andThen}
 use Rattle.stages.specs.Containment.{AllProper, InWire, Inside, Held, Sized, Stands, Given, Leads, Lawful}
-use Rattle.stages.proofs.Networks.{then-ok}
+use Rattle.fixed.proofs.Chains.{then-ok}
 use Rattle.rows.specs.declared.layout.Layout.{Layout}
 use Rattle.rows.specs.declared.scales.Scales.{Scales}
 use Rattle.rows.specs.Scales.{scalesFit}
@@ -98,7 +99,8 @@ record LeadsIn (s : Setting) (o : Option Layout) (xs ys : List WireRow) : Type 0
   runs : (cs : List ℤ) → Inside xs cs → (ds : List ℤ) × (codesIn s cs o ≡ Ok ds) × Inside ys ds
   carries : (d : ℕ) (cs ds Xs : List ℤ) → codesIn s cs o ≡ Ok ds → Held (s .before .fraction) d xs cs Xs
       → Held (afterIn s o .fraction) (exactIn s (exactly d Xs) o .depth) ys ds (exactIn s (exactly d Xs) o .values)
-  counts : (cs ds : List ℤ) → codesIn s cs o ≡ Ok ds → length ds ≡ afterIn s o .count
+  code-counts : (cs ds : List ℤ) → codesIn s cs o ≡ Ok ds → length ds ≡ afterIn s o .count
+  exact-counts : (x : Exact) → length (exactIn s x o .values) ≡ afterIn s o .count
 
 -- the checks that wires have passed
 passed : {A E : Type 0} (t : Bool) (r : Result A E) (e : E) (y : A) → cond t r (Err e) ≡ Ok y → (t ≡ true) × (r ≡ Ok y)
@@ -131,14 +133,16 @@ leads-in s (Some l) xs ys given good e =
       runs = λ cs i. rows-run t l (s .bytes) (s .before .word) xs (deep .0) (deep .1) (stands .proper) 0 (l .outputs) ys cs i (fits .1);
       carries = λ d cs ds Xs r held.
           rows-carry t l (s .bytes) (s .before .word) xs (deep .0) (deep .1) (stands .proper) 0 (l .outputs) d ys cs ds Xs held (fits .1) r;
-      counts = λ cs ds r. outputs-many (rowAt (rowCode t) l (s .bytes) cs) 0 (l .outputs) ds r;
+      code-counts = λ cs ds r. outputs-many (rowAt (rowCode t) l (s .bytes) cs) 0 (l .outputs) ds r;
+      exact-counts = λ x. length-map-counting (rowAt (λ o ws b zs. rowExact ws b (x .depth) zs) l (s .bytes) (x .values)) 0 (l .outputs);
     }
 
 pub rows-lawful : (plan : ℕ → ℕ → Option Layout) → GoodPlan plan → Lawful (rowsKind plan)
 rows-lawful plan good = record {
   leads = λ s xs ys given e.
       let l = at s xs ys given e in record { stands = l .stands; runs = l .runs; carries = l .carries };
-  counts = λ s xs ys given e cs ds n r. at s xs ys given e .counts cs ds r;
+  code-counts = λ s xs ys given e cs ds n r. at s xs ys given e .code-counts cs ds r;
+  exact-counts = λ s xs ys given e x n. at s xs ys given e .exact-counts x;
 }
   where
     at : (s : Setting) (xs ys : List WireRow) → Given s xs → rowsKind plan .wires s xs ≡ Ok ys → LeadsIn s (planIn plan s) xs ys

@@ -1,17 +1,17 @@
 -- Full and taps in the words of their field. Assumes nothing.
 use mathlib.Core.List.{List, map}
 use mathlib.Core.Path.{_≡_}
-use Prim.Native.Nat.{ℕ, zero, suc, _+_, _*_, _^_, _≤_}
+use Prim.Native.Nat.{ℕ, zero, suc, _+_, _-_, _*_, _^_}
 use lib.IntN.{ℤ, pos, _+ℤ_, _*ℤ_}
 use lib.ListN.{length, getD, take, drop}
 use Rattle.std.specs.Iters.{counting}
 use Rattle.std.specs.declared.option.Option.the-variants.{Some}
 use Rattle.fixed.specs.declared.row.WireRow.{WireRow}
+use Rattle.stages.specs.Kind.{Setting, Exact}
 use Rattle.rows.specs.declared.layout.Layout.{Layout}
-use Rattle.rows.specs.declared.scales.Scales.{Scales}
 use Rattle.rows.specs.Row.{rowExact}
-use Rattle.rows.specs.Layout.{numberAt, weightsAt, wiresBy, codesBy, exactBy}
-use Rattle.rows.specs.Plan.{fullPlan, tapsPlan}
+use Rattle.rows.specs.Layout.{numberAt, exactBy}
+use Rattle.rows.specs.Plan.{fullPlan, tapsPlan, wiresIn, codesIn, afterIn, exactIn}
 
 -- the sum of f j over j from i on, n of them
 abbrev pub sumFrom : (ℕ → ℤ) → ℕ → ℕ → ℤ
@@ -25,14 +25,16 @@ FullIsProduct = (k n d : ℕ) (l : Layout) (bytes : List ℕ) (Xs : List ℤ) �
     → exactBy l bytes d Xs
     ≡ map (λ o. sumFrom (λ j. numberAt bytes (o * n + j) *ℤ getD Xs j (pos 0)) 0 n +ℤ numberAt bytes (k * n + o) *ℤ pos (2 ^ (24 * (d + 1)))) (counting 0 k)
 
--- Taps is one row over a moving window: output o is the row of the same weights and bias over inputs o to o + k - 1.
+-- Taps is one row over a moving window: output o, of n - k + 1, is the row of numbers 0 to k - 1 as weights and number k
+-- as bias, over inputs o to o + k - 1.
 abbrev pub TapsIsWindow : Type 0
 TapsIsWindow = (k n d : ℕ) (l : Layout) (bytes : List ℕ) (Xs : List ℤ) → tapsPlan k n ≡ Some l
-    → exactBy l bytes d Xs ≡ map (λ o. rowExact (weightsAt l bytes 0) (numberAt bytes k) d (take k (drop o Xs))) (counting 0 (l .outputs))
+    → exactBy l bytes d Xs ≡ map (λ o. rowExact (map (numberAt bytes) (counting 0 k)) (numberAt bytes k) d (take k (drop o Xs))) (counting 0 (n - k + 1))
 
--- So taps over all inputs is a full stage of one output: the same wires, codes and exact values, and the same refusals.
+-- So taps over all inputs is a full stage of one output: the same wires and refusals, codes, shape after and exact values.
 abbrev pub TapsIsFull : Type 0
-TapsIsFull = (n : ℕ) (t f : Layout) → tapsPlan n n ≡ Some t → fullPlan 1 n ≡ Some f → (s : Scales) (bytes : List ℕ)
-    → ((xs : List WireRow) → wiresBy s t bytes xs ≡ wiresBy s f bytes xs)
-    × ((cs : List ℤ) → codesBy s t bytes cs ≡ codesBy s f bytes cs)
-    × ((d : ℕ) (Xs : List ℤ) → exactBy t bytes d Xs ≡ exactBy f bytes d Xs)
+TapsIsFull = (n : ℕ) (t f : Layout) → tapsPlan n n ≡ Some t → fullPlan 1 n ≡ Some f → (s : Setting)
+    → ((xs : List WireRow) → wiresIn s xs (Some t) ≡ wiresIn s xs (Some f))
+    × ((cs : List ℤ) → codesIn s cs (Some t) ≡ codesIn s cs (Some f))
+    × (afterIn s (Some t) ≡ afterIn s (Some f))
+    × ((x : Exact) → exactIn s x (Some t) ≡ exactIn s x (Some f))

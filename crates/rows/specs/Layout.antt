@@ -8,7 +8,7 @@ use Rattle.std.specs.declared.result.Result.{Result}
 use Rattle.std.specs.declared.result.Result.the-variants.{Ok, Err}
 use Rattle.fixed.specs.Bytes.{i32At}
 use Rattle.fixed.specs.declared.row.WireRow.{WireRow}
-use Rattle.stages.specs.Network.{andThen}
+use Rattle.fixed.specs.Steps.{andThen}
 use Rattle.stages.specs.declared.shape.KindRefusal.{KindRefusal}
 use Rattle.stages.specs.declared.shape.RunRefusal.{RunRefusal}
 use Rattle.rows.specs.declared.layout.Layout.{Layout}

@@ -16,7 +16,7 @@ use Rattle.stages.specs.declared.shape.KindRefusal.{KindRefusal}
 use Rattle.stages.specs.declared.shape.KindRefusal.the-variants.{WeightCode, RangeSum, RangeOutput, WireError}
 use Rattle.stages.specs.declared.shape.RunRefusal.{RunRefusal}
 use Rattle.stages.specs.declared.shape.RunRefusal.the-variants.{Sum, Output}
-use Rattle.rows.specs.declared.range.Range.{Range}
+use Rattle.rows.specs.declared.range.SumRange.{SumRange}
 use Rattle.rows.specs.declared.scales.Scales.{Scales}
 use Rattle.rows.specs.Scales.{dropped}
 use Rattle.rows.specs.Walk.{walked}
@@ -40,7 +40,7 @@ allFit w (q ∷ qs) = fitsWord w q && allFit w qs
 abbrev pub codeSum : Scales → List ℤ → ℤ → List ℤ → Option ℤ
 codeSum s ws b xs = walked (fitsWord (s .bits)) _+ℤ_ _*ℤ_ (biasCode s b) (weightCodes s ws) xs
 
-abbrev pub rangeSum : Scales → List ℤ → ℤ → List WireRow → Option Range
+abbrev pub rangeSum : Scales → List ℤ → ℤ → List WireRow → Option SumRange
 rangeSum s ws b xs =
     walked (rangeFits (s .bits)) rangePlus rangeTimes (record { low = biasCode s b; high = biasCode s b }) (weightCodes s ws) xs
 
@@ -74,22 +74,24 @@ shifted s o (Some z) = cond (fitsWord (s .wy) (floorShift z (dropped s))) (Ok (f
 abbrev pub rowCode : Scales → ℕ → List ℤ → ℤ → List ℤ → Result ℤ RunRefusal
 rowCode s o ws b xs = shifted s o (codeSum s ws b xs)
 
--- the wire of row o: weight codes, partial sums, output word and error are checked in this order
-abbrev pub wired : Scales → ℕ → ℕ → Option Range → Result WireRow KindRefusal
+-- the wire of row o by the range of its sum: output word, then error
+abbrev pub wired : Scales → ℕ → ℕ → Option SumRange → Result WireRow KindRefusal
 wired s o e None = Err (RangeSum o)
 wired s o e (Some r) =
     cond (rangeFits (s .wy) (rangeShift r (dropped s)))
     (cond (leb e mostError) (Ok (record { low = rangeShift r (dropped s) .low; high = rangeShift r (dropped s) .high; error = e })) (Err (WireError o)))
     (Err (RangeOutput o))
 
+-- the wire of row o: weight codes, partial sums, output word and error are checked in this order
 abbrev pub rowWire : Scales → ℕ → List ℤ → ℤ → List WireRow → Result WireRow KindRefusal
 rowWire s o ws b xs = cond (allFit (s .ww) (weightCodes s ws)) (wired s o (rowError s ws b xs) (rangeSum s ws b xs)) (Err (WeightCode o))
 
--- the exact row at depth d + 1
+-- the sum of products, as far as both lists go
 abbrev pub dot : List ℤ → List ℤ → ℤ
 dot [] Xs = pos 0
 dot (w ∷ ws) [] = pos 0
 dot (w ∷ ws) (X ∷ Xs) = w *ℤ X +ℤ dot ws Xs
 
+-- the exact row at depth d + 1
 abbrev pub rowExact : List ℤ → ℤ → ℕ → List ℤ → ℤ
 rowExact ws b d Xs = dot ws Xs +ℤ b *ℤ pos (2 ^ (24 * (d + 1)))

@@ -5,7 +5,7 @@ ghost use lib.ListN.{length};
 ghost use Rattle.rows.specs.Row.{remainder, reach, spreadOf, spread, rowError};
 use crate::row_format::RowFormat;
 use fixed::row::WireRow;
-use fixed::word::magnitude;
+use fixed::word::below_sign;
 
 // What rounding to a multiple of 2^places drops.
 fn remainder(value: i32, places: u8) -> u64
@@ -14,7 +14,7 @@ fn remainder(value: i32, places: u8) -> u64
     ensures bound { λ r. ⌜ r ≤ 2 ^ 24 ⌝ }
 {
     let unit = 1u64 << places;
-    let low = magnitude(i64::from(value)) % unit;
+    let low = below_sign(i64::from(value)) % unit;
     if value < 0 { unit - 1 - low } else { low }
 }
 

@@ -5,12 +5,12 @@ ghost use Prim.Native.Nat.{ℕ, _^_, _≤_};
 ghost use lib.IntN.{ℤ, natAbs, _+ℤ_, _*ℤ_};
 ghost use Rattle.fixed.specs.Word.{fitsWord};
 ghost use Rattle.rows.specs.Range.{rangePlus, rangeTimes, rangeFits};
-use crate::range::Range;
+use crate::range::SumRange;
 use fixed::row::WireRow;
 use fixed::word::fits_word;
 
 // A sum, a product of a weight code and an input, and a test for the accumulator's bits.
-pub trait Quantity: Sized {
+pub(crate) trait Quantity: Sized {
     type Input;
 
     ghost plus: { Self → Self → Self };
@@ -36,7 +36,7 @@ pub trait Quantity: Sized {
         ensures { λ r. ⌜ r ≡ fitting bits self ⌝ };
 }
 
-pub impl Quantity for i64 as CodeQuantity {
+pub(crate) impl Quantity for i64 as CodeQuantity {
     type Input = i32;
 
     ghost plus = { _+ℤ_ };
@@ -60,7 +60,7 @@ pub impl Quantity for i64 as CodeQuantity {
     }
 }
 
-pub impl Quantity for Range as RangeQuantity {
+pub(crate) impl Quantity for SumRange as RangeQuantity {
     type Input = WireRow;
 
     ghost plus = { rangePlus };
@@ -71,23 +71,23 @@ pub impl Quantity for Range as RangeQuantity {
 
     ghost small = { λ r. (natAbs (r .low) ≤ 2 ^ 62) × (natAbs (r .high) ≤ 2 ^ 62) };
 
-    fn sum(self, other: Range) -> Range {
-        Range {
+    fn sum(self, other: SumRange) -> SumRange {
+        SumRange {
             low: self.low.sum(other.low),
             high: self.high.sum(other.high),
         }
     }
 
-    fn product(weight: i32, input: WireRow) -> Range {
+    fn product(weight: i32, input: WireRow) -> SumRange {
         let low = CodeQuantity::product(weight, input.low);
         let high = CodeQuantity::product(weight, input.high);
         if weight < 0 {
-            Range {
+            SumRange {
                 low: high,
                 high: low,
             }
         } else {
-            Range { low, high }
+            SumRange { low, high }
         }
     }
 

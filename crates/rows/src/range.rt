@@ -2,7 +2,7 @@
 
 // From the least to the greatest value that a sum can have.
 #[derive(Clone, Copy, PartialEq, Eq, Debug)]
-pub struct Range {
+pub struct SumRange {
     pub low: i64,
     pub high: i64,
 }

@@ -12,7 +12,7 @@ use crate::error::row_error;
 use crate::quantity::CodeQuantity;
 use crate::quantity::Quantity;
 use crate::quantity::RangeQuantity;
-use crate::range::Range;
+use crate::range::SumRange;
 use crate::row_format::RowFormat;
 use crate::walk::walk;
 use crate::weights::all_fit;
@@ -37,7 +37,7 @@ fn code_sum(format: RowFormat, weights: &[i32], bias: i32, codes: &[i32]) -> Opt
     )
 }
 
-fn range_sum(format: RowFormat, weights: &[i32], bias: i32, rows: &[WireRow]) -> Option<Range>
+fn range_sum(format: RowFormat, weights: &[i32], bias: i32, rows: &[WireRow]) -> Option<SumRange>
     requires lengths { ⌜ length (now weights) ≡ length (now rows) ⌝ }
     requires few { ⌜ length (now rows) ≤ 64 ⌝ }
     ensures { λ r. ⌜ r ≡ rangeSum (format .scales) (now (weights .entry)) bias (now (rows .entry)) ⌝ }
@@ -45,7 +45,7 @@ fn range_sum(format: RowFormat, weights: &[i32], bias: i32, rows: &[WireRow]) ->
     let table = code_table(format, weights);
     let start = format.bias_code(bias);
     walk(
-        Range {
+        SumRange {
             low: start,
             high: start,
         },
@@ -55,11 +55,11 @@ fn range_sum(format: RowFormat, weights: &[i32], bias: i32, rows: &[WireRow]) ->
     )
 }
 
-fn shift_range(range: Range, places: u8) -> Range
+fn shift_range(range: SumRange, places: u8) -> SumRange
     ensures { λ r. ⌜ r ≡ rangeShift range places ⌝ }
 {
     let places = u32::from(places);
-    Range {
+    SumRange {
         low: floor_shift(range.low, places),
         high: floor_shift(range.high, places),
     }
@@ -101,7 +101,7 @@ pub(crate) fn run_row(
 }
 
 // The ends of a sum's range as those of a wire.
-fn ends(format: RowFormat, sum: Range) -> Option<(i32, i32)>
+fn ends(format: RowFormat, sum: SumRange) -> Option<(i32, i32)>
     ensures { λ r. ⌜ r ≡ cond (rangeFits (format .scales .wy) (rangeShift sum (dropped (format .scales)))) (some (rangeShift sum (dropped (format .scales)) .low, rangeShift sum (dropped (format .scales)) .high)) none ⌝ }
 {
     let range = shift_range(sum, format.dropped());

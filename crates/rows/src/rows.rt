@@ -3,7 +3,7 @@ ghost use mathlib.Core.Path.{_≡_};
 ghost use mathlib.Core.List.{_++_};
 ghost use Prim.Native.Nat.{ℕ, _+_, _*_, _≤_, _<_};
 ghost use lib.ListN.{length, drop};
-ghost use Rattle.stages.specs.Kind.{mapped, over};
+ghost use Rattle.stages.specs.Kind.{mapOk, over};
 ghost use Rattle.rows.specs.Layout.{numberAt, weightsAt, biasAt, rowAt, outputsFrom};
 use crate::evaluated::Evaluated;
 use crate::layout::Layout;
@@ -49,7 +49,7 @@ where
     E::Value: Copy,
     requires few { ⌜ layout .outputs ≤ 64 ⌝ ∗ ⌜ layout .length ≤ 64 ⌝ }
     requires windows { ⌜ ((o : ℕ) → o < layout .outputs → o * layout .slide + layout .length ≤ length (now inputs)) ⌝ }
-    ensures answer { λ r. ⌜ r ≡ mapped (λ _. tt) (outputsFrom (rowAt (rowOf (format .scales)) layout (now (bytes .entry)) (now (inputs .entry))) 0 (layout .outputs)) ⌝ }
+    ensures answer { λ r. ⌜ r ≡ mapOk (λ _. tt) (outputsFrom (rowAt (rowOf (format .scales)) layout (now (bytes .entry)) (now (inputs .entry))) 0 (layout .outputs)) ⌝ }
     ensures table { λ _. ⌜ now (out .exit) ≡ over (outputsFrom (rowAt (rowOf (format .scales)) layout (now (bytes .entry)) (now (inputs .entry))) 0 (layout .outputs)) (now (out .entry)) ⌝ }
 {
     let mut made = *out;

@@ -1,7 +1,7 @@
 // Stages of rows through a plan.
 ghost use mathlib.Core.Path.{_≡_};
 ghost use lib.ListN.{length};
-ghost use Rattle.stages.specs.Kind.{setting, mapped, over};
+ghost use Rattle.stages.specs.Kind.{setting, mapOk, over};
 ghost use Rattle.stages.specs.Containment.{Given, Passes};
 ghost use Rattle.rows.specs.Plan.{rowsKind, scalesIn};
 use crate::evaluated::Codes;
@@ -40,7 +40,7 @@ pub(crate) fn judge_plan<P: Plan>(
     out: &mut [WireRow; 64],
 ) -> Result<Shape, KindRefusal>
     requires { ⌜ Given (setting (now bytes) accumulator before) (now rows) ⌝ }
-    ensures answer { λ r. ⌜ r ≡ mapped (λ _. rowsKind plan .after (setting (now (bytes .entry)) accumulator before)) (rowsKind plan .wires (setting (now (bytes .entry)) accumulator before) (now (rows .entry))) ⌝ }
+    ensures answer { λ r. ⌜ r ≡ mapOk (λ _. rowsKind plan .after (setting (now (bytes .entry)) accumulator before)) (rowsKind plan .wires (setting (now (bytes .entry)) accumulator before) (now (rows .entry))) ⌝ }
     ensures table { λ _. ⌜ now (out .exit) ≡ over (rowsKind plan .wires (setting (now (bytes .entry)) accumulator before) (now (rows .entry))) (now (out .entry)) ⌝ }
 {
     let Some(layout) = P::layout(u8_at(bytes, 1), before.count) else {
@@ -73,7 +73,7 @@ pub(crate) fn run_plan<P: Plan>(
 ) -> Result<usize, RunRefusal>
     requires passes { ⌜ Passes (rowsKind plan) (setting (now bytes) accumulator before) ⌝ }
     requires many { ⌜ length (now codes) ≡ before .count ⌝ }
-    ensures answer { λ r. ⌜ r ≡ mapped length (rowsKind plan .code (setting (now (bytes .entry)) accumulator before) (now (codes .entry))) ⌝ }
+    ensures answer { λ r. ⌜ r ≡ mapOk length (rowsKind plan .code (setting (now (bytes .entry)) accumulator before) (now (codes .entry))) ⌝ }
     ensures table { λ _. ⌜ now (out .exit) ≡ over (rowsKind plan .code (setting (now (bytes .entry)) accumulator before) (now (codes .entry))) (now (out .entry)) ⌝ }
 {
     let Some(layout) = P::layout(u8_at(bytes, 1), before.count) else {

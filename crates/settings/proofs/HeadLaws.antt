@@ -15,6 +15,7 @@ use Rattle.std.proofs.shelf.Tests.{both-ways}
 use Rattle.std.proofs.shelf.Ways.{tells}
 use Rattle.fixed.specs.Wire.{Proper, isProper, noRow}
 use Rattle.fixed.specs.declared.row.WireRow.{WireRow}
+use Rattle.fixed.proofs.Chains.{then-ok, then-err}
 use Rattle.fixed.proofs.Wires.{proper-out, proper-in}
 use Rattle.settings.specs.declared.fields.Fields.{Fields}
 use Rattle.settings.specs.declared.refusal.Refusal.{Refusal}
@@ -22,10 +23,11 @@ use Rattle.settings.specs.declared.refusal.Refusal.the-variants.{InputWire}
 use Rattle.fixed.specs.Bytes.{u16At}
 use Rattle.settings.specs.Records.{Split, splitRecord}
 use Rattle.settings.specs.Limits.{fieldsOf, inLimits, Counts, Words, Times}
-use Rattle.settings.specs.Head.{Head, headOf, headWith, headFrom, properInput, andThen, recordsOf, headerRecord, checkedFields, firstImproper, inputRow, inputRows}
+use Rattle.fixed.specs.Steps.{andThen}
+use Rattle.settings.specs.Head.{Head, headOf, headWith, headFrom, properInput, recordsOf, headerRecord, checkedFields, firstImproper, inputRow, inputRows}
 use Rattle.settings.specs.HeadLaw.{HeadLaw, Sound, FirstFault, headerBytes}
 use Rattle.settings.proofs.Steps.{first-none, first-some}
-use Rattle.settings.proofs.Heads.{then-ok, then-err, records-ok, record-ok, records-err, record-err, fields-ok, fields-err}
+use Rattle.settings.proofs.Heads.{records-ok, record-ok, records-err, record-err, fields-ok, fields-err}
 
 -- the limits behind the tests
 counts-in : (h : Fields) → inLimits h ≡ true → Counts h

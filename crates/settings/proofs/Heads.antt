@@ -1,6 +1,5 @@
 -- The parts of an accepted head.
 use mathlib.Core.Path.{_≡_, refl, ap, ap₂, sym, _∙_, subst}
-use mathlib.Core.Logic.{_⊎_, inl, inr}
 use mathlib.Core.Bool.{Bool, true, false, cond, _&&_}
 use mathlib.Core.List.{List, _++_}
 use Prim.Native.Nat.{ℕ, _+_, _*_, _-_, _≤_}
@@ -21,7 +20,8 @@ use Rattle.settings.specs.declared.refusal.Refusal.the-variants.{FileSize, Ver
 use Rattle.fixed.specs.Bytes.{u16At}
 use Rattle.settings.specs.Records.{Split, splitRecord}
 use Rattle.settings.specs.Limits.{fieldsOf, inLimits}
-use Rattle.settings.specs.Head.{inputRow, inputRows, isHeader, recordsOf, headerRecord, firstImproper, unlessImproper, checkedFields, Head, andThen, headWith, headFrom, headOf, inputsOver}
+use Rattle.fixed.specs.Steps.{andThen}
+use Rattle.settings.specs.Head.{inputRow, inputRows, isHeader, recordsOf, headerRecord, firstImproper, unlessImproper, checkedFields, Head, headWith, headFrom, headOf, inputsOver}
 
 pub records-ok : (file xs : List ℕ) → recordsOf file ≡ Ok xs → xs ≡ drop 1 file
 records-ok file xs e = grind (arith, tells)
@@ -72,15 +72,6 @@ fields-err b i e = by (inLimits (fieldsOf b)) (firstImproper b) refl e
     by true None q e = let z : _≡_ {A = ℕ} 0 1 = cc in absurd (omega arith)
     by true (Some j) q e = let s : j ≡ i = cc in q ∙ ap Some s
     by false o q e = let z : _≡_ {A = ℕ} 0 1 = cc in absurd (omega arith)
-
--- one step after another
-pub then-ok : {A B E : Type 0} (r : Result A E) (f : A → Result B E) (y : B) → andThen r f ≡ Ok y → (x : A) × (r ≡ Ok x) × (f x ≡ Ok y)
-then-ok (Ok x) f y e = (x, refl, e)
-then-ok (Err r) f y e = let z : _≡_ {A = ℕ} 0 1 = cc in absurd (omega arith)
-
-pub then-err : {A B E : Type 0} (r : Result A E) (f : A → Result B E) (e : E) → andThen r f ≡ Err e → (r ≡ Err e) ⊎ ((x : A) × (r ≡ Ok x) × (f x ≡ Err e))
-then-err (Ok x) f e p = inr (x, refl, p)
-then-err (Err r) f e p = let s : r ≡ e = cc in inl (ap Err s)
 
 pub head-ok : (file xs : List ℕ) (s : Split) (h : Fields)
     → recordsOf file ≡ Ok xs → headerRecord (splitRecord xs) ≡ Ok s → checkedFields (s .front) ≡ Ok h

@@ -9,6 +9,7 @@ use Rattle.std.specs.declared.option.Option.{Option}
 use Rattle.std.specs.declared.option.Option.the-variants.{Some, None}
 use Rattle.std.specs.declared.result.Result.{Result}
 use Rattle.std.specs.declared.result.Result.the-variants.{Ok, Err}
+use Rattle.fixed.specs.Steps.{andThen}
 use Rattle.fixed.specs.declared.row.WireRow.{WireRow}
 use Rattle.fixed.specs.Wire.{isProper}
 use Rattle.settings.specs.declared.fields.Fields.{Fields}
@@ -61,10 +62,6 @@ pub record Head : Type 0 where
   pub header : Fields
   pub inputs : List WireRow
   pub rest : List ℕ
-
-abbrev pub andThen : {A B E : Type 0} → Result A E → (A → Result B E) → Result B E
-andThen (Ok x) f = f x
-andThen (Err e) f = Err e
 
 abbrev pub headWith : Split → Fields → Head
 headWith s h = record { header = h; inputs = inputRows (s .front) (h .inputs); rest = s .rest }

@@ -9,23 +9,21 @@ use Rattle.std.specs.declared.option.Option.{Option}
 use Rattle.std.specs.declared.option.Option.the-variants.{Some, None}
 use Rattle.std.specs.declared.result.Result.{Result}
 use Rattle.std.specs.declared.result.Result.the-variants.{Ok, Err}
+use Rattle.fixed.specs.Steps.{andThen}
+use Rattle.fixed.proofs.Chains.{then-ok}
 use Rattle.fixed.specs.declared.row.WireRow.{WireRow}
 use Rattle.stages.specs.declared.shape.Shape.{Shape}
 use Rattle.stages.specs.Kind.{Setting, setting, Exact, exactly, Kind, Kinds, kindOf}
 use Rattle.stages.specs.Containment.{Inside, Held, Stands, Given, Leads, Lawful, LawfulSet}
-use Rattle.stages.specs.Network.{kindIn, Stand, stand, andThen, wiresAfter, wiresThrough, codesThrough, exactThrough, Contained, NetworkLaw}
-
--- one step after another
-pub then-ok : {A B E : Type 0} (r : Result A E) (f : A → Result B E) (y : B) → andThen r f ≡ Ok y → (x : A) × (r ≡ Ok x) × (f x ≡ Ok y)
-then-ok (Ok x) f y e = (x, refl, e)
-then-ok (Err r) f y e = let z : _≡_ {A = ℕ} 0 1 = cc in absurd (omega arith)
+use Rattle.stages.specs.Network.{kindIn, Stand, stand, wiresAfter, wiresThrough, codesThrough, exactThrough, Contained, NetworkLaw}
 
 -- a number that is not known leads nowhere
-lawful-at : (o : Option Kind) → ((k : Kind) → o ≡ Some k → Lawful k) → Lawful (kindOf o)
+pub lawful-at : (o : Option Kind) → ((k : Kind) → o ≡ Some k → Lawful k) → Lawful (kindOf o)
 lawful-at (Some k) law = law k refl
 lawful-at None law = record {
   leads = λ s xs ys g e. let z : _≡_ {A = ℕ} 0 1 = cc in absurd (omega arith);
-  counts = λ s xs ys g e cs ds n c. let z : _≡_ {A = ℕ} 0 1 = cc in absurd (omega arith);
+  code-counts = λ s xs ys g e cs ds n c. let z : _≡_ {A = ℕ} 0 1 = cc in absurd (omega arith);
+  exact-counts = λ s xs ys g e x n. let z : _≡_ {A = ℕ} 0 1 = cc in absurd (omega arith);
 }
 
 pub network-law : (m : Kinds) → LawfulSet m → NetworkLaw m

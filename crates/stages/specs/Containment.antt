@@ -73,11 +73,13 @@ pub record Leads (k : Kind) (s : Setting) (xs ys : List WireRow) : Type 0 where
   pub carries : (d : ℕ) (cs ds Xs : List ℤ) → k .code s cs ≡ Ok ds → Held (s .before .fraction) d xs cs Xs
       → Held (k .after s .fraction) (k .exact s (exactly d Xs) .depth) ys ds (k .exact s (exactly d Xs) .values)
 
--- The law of every kind. Codes that run are as many as the shape after says, inside the wires or not.
+-- The law of every kind. Codes that run, inside the wires or not, and exact values are as many as the shape after says.
 pub record Lawful (k : Kind) : Type 0 where
   pub leads : (s : Setting) (xs ys : List WireRow) → Given s xs → k .wires s xs ≡ Ok ys → Leads k s xs ys
-  pub counts : (s : Setting) (xs ys : List WireRow) → Given s xs → k .wires s xs ≡ Ok ys
+  pub code-counts : (s : Setting) (xs ys : List WireRow) → Given s xs → k .wires s xs ≡ Ok ys
       → (cs ds : List ℤ) → length cs ≡ s .before .count → k .code s cs ≡ Ok ds → length ds ≡ k .after s .count
+  pub exact-counts : (s : Setting) (xs ys : List WireRow) → Given s xs → k .wires s xs ≡ Ok ys
+      → (x : Exact) → length (x .values) ≡ s .before .count → length (k .exact s x .values) ≡ k .after s .count
 
 -- every kind that a set knows is lawful
 abbrev pub LawfulSet : Kinds → Type 0

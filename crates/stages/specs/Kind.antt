@@ -71,9 +71,9 @@ abbrev pub orElse : Option Kind → Option Kind → Option Kind
 orElse (Some k) o = Some k
 orElse None o = o
 
-abbrev pub mapped : {A B E : Type 0} → (A → B) → Result A E → Result B E
-mapped f (Ok x) = Ok (f x)
-mapped f (Err e) = Err e
+abbrev pub mapOk : {A B E : Type 0} → (A → B) → Result A E → Result B E
+mapOk f (Ok x) = Ok (f x)
+mapOk f (Err e) = Err e
 
 -- an answer in front of a lent table, the rest of it as it was; all of it as it was on a refusal
 abbrev pub over : {X E : Type 0} → Result (List X) E → List X → List X

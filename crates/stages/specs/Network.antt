@@ -6,6 +6,7 @@ use lib.IntN.{ℤ}
 use lib.ListN.{getD}
 use Rattle.std.specs.declared.result.Result.{Result}
 use Rattle.std.specs.declared.result.Result.the-variants.{Ok, Err}
+use Rattle.fixed.specs.Steps.{andThen}
 use Rattle.fixed.specs.declared.row.WireRow.{WireRow}
 use Rattle.stages.specs.declared.shape.Shape.{Shape}
 use Rattle.stages.specs.declared.shape.KindRefusal.{KindRefusal}
@@ -24,10 +25,6 @@ pub record Stand : Type 0 where
 
 abbrev pub stand : Shape → List WireRow → Stand
 stand s xs = record { shape = s; wires = xs }
-
-abbrev pub andThen : {A B E : Type 0} → Result A E → (A → Result B E) → Result B E
-andThen (Ok x) f = f x
-andThen (Err e) f = Err e
 
 -- the wires after a stage with accumulator a and record b
 abbrev pub wiresAfter : Kinds → ℕ → List ℕ → Stand → Result Stand KindRefusal

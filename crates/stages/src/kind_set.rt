@@ -4,7 +4,7 @@ ghost use Prim.Native.Nat.{ℕ};
 ghost use lib.ListN.{length};
 ghost use Rattle.std.specs.Options.{isSome};
 ghost use Rattle.std.specs.declared.option.Option.the-variants.{Some as some};
-ghost use Rattle.stages.specs.Kind.{Kind, Kinds, kindOf, setting, mapped, over};
+ghost use Rattle.stages.specs.Kind.{Kind, Kinds, kindOf, setting, mapOk, over};
 ghost use Rattle.stages.specs.Containment.{Lawful, Given, Passes};
 use crate::shape::KindRefusal;
 use crate::shape::RunRefusal;
@@ -30,7 +30,7 @@ pub trait KindSet {
         out: &mut [WireRow; 64],
     ) -> Result<Shape, KindRefusal>
         requires { ⌜ Given (setting (now bytes) accumulator before) (now rows) ⌝ }
-        ensures answer { λ r. ⌜ r ≡ mapped (λ _. kindOf (meaning (now (self .entry)) number) .after (setting (now (bytes .entry)) accumulator before)) (kindOf (meaning (now (self .entry)) number) .wires (setting (now (bytes .entry)) accumulator before) (now (rows .entry))) ⌝ }
+        ensures answer { λ r. ⌜ r ≡ mapOk (λ _. kindOf (meaning (now (self .entry)) number) .after (setting (now (bytes .entry)) accumulator before)) (kindOf (meaning (now (self .entry)) number) .wires (setting (now (bytes .entry)) accumulator before) (now (rows .entry))) ⌝ }
         ensures table { λ _. ⌜ now (out .exit) ≡ over (kindOf (meaning (now (self .entry)) number) .wires (setting (now (bytes .entry)) accumulator before) (now (rows .entry))) (now (out .entry)) ⌝ };
 
     // The codes after a stage that some wires pass, in front of the lent table, and how many.
@@ -45,6 +45,6 @@ pub trait KindSet {
     ) -> Result<usize, RunRefusal>
         requires passes { ⌜ Passes (kindOf (meaning (now self) number)) (setting (now bytes) accumulator before) ⌝ }
         requires many { ⌜ length (now codes) ≡ before .count ⌝ }
-        ensures answer { λ r. ⌜ r ≡ mapped length (kindOf (meaning (now (self .entry)) number) .code (setting (now (bytes .entry)) accumulator before) (now (codes .entry))) ⌝ }
+        ensures answer { λ r. ⌜ r ≡ mapOk length (kindOf (meaning (now (self .entry)) number) .code (setting (now (bytes .entry)) accumulator before) (now (codes .entry))) ⌝ }
         ensures table { λ _. ⌜ now (out .exit) ≡ over (kindOf (meaning (now (self .entry)) number) .code (setting (now (bytes .entry)) accumulator before) (now (codes .entry))) (now (out .entry)) ⌝ };
 }

@@ -1,9 +1,9 @@
 // How the head of a file is read.
 ghost use mathlib.Core.Path.{_≡_};
 ghost use mathlib.Core.Bool.{true};
-ghost use Prim.Native.Nat.{ℕ};
+ghost use Prim.Native.Nat.{_+_, _*_};
 ghost use lib.ListN.{drop};
-ghost use Rattle.std.specs.Results.{mapped};
+ghost use Rattle.std.specs.Results.{Cases, mapped};
 ghost use Rattle.settings.specs.Records.{splitRecord};
 ghost use Rattle.settings.specs.Head.{recordsOf, isHeader, headerRecord, checkedFields, headOf, inputsOver};
 ghost use Rattle.settings.specs.HeadLaw.{HeadLaw};
@@ -78,6 +78,7 @@ fn checked_header(bytes: &[u8]) -> Result<Header, Refusal>
 // The head of a file, with its inputs in front of a lent table, or the first refusal.
 pub fn read_head(file: &[u8], rows: &mut [WireRow; 64]) -> Result<Head, Refusal>
     ensures answer { λ r. ⌜ headIn r (now (file .entry)) (now (rows .exit)) ≡ headOf (now (file .entry)) ⌝ }
+    ensures start { λ r. ⌜ Cases r (λ h. h .«stages_at» ≡ 24 + 12 * h .header .fields .inputs) (λ _. Unit {0}) ⌝ }
     ensures law { λ _. ⌜ HeadLaw (now (file .entry)) ⌝ }
     ensures table { λ _. ⌜ now (rows .exit) ≡ inputsOver (headOf (now (file .entry))) (now (rows .entry)) ⌝ }
 {

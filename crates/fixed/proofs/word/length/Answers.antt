@@ -21,11 +21,11 @@ returns c =
     let g = c .fits .high in
     let p : SFits w64 (c .min .result) = search needs in
     let q : SFits w64 (c .max .result) = search needs in
-    let below : c .magnitude-below .result ≡ mag (minZ low (pos 0)) =
-    (simp toZ-ofZ at (c .magnitude-below .ensures)) ∙ ap mag (simp toZ-ofZ at (c .min .ensures .value)) in
-    let above : c .magnitude-above .result ≡ mag (maxZ high (pos 0)) =
-    (simp toZ-ofZ at (c .magnitude-above .ensures)) ∙ ap mag (simp toZ-ofZ at (c .max .ensures .value)) in
-    let small : mag (minZ low (pos 0)) < 2 ^ 64 = omega (arith, below, c .magnitude-below .ok) in
-    let large : mag (maxZ high (pos 0)) < 2 ^ 64 = omega (arith, above, c .magnitude-above .ok) in
+    let below : c .below-sign-below .result ≡ mag (minZ low (pos 0)) =
+    (simp toZ-ofZ at (c .below-sign-below .ensures)) ∙ ap mag (simp toZ-ofZ at (c .min .ensures .value)) in
+    let above : c .below-sign-above .result ≡ mag (maxZ high (pos 0)) =
+    (simp toZ-ofZ at (c .below-sign-above .ensures)) ∙ ap mag (simp toZ-ofZ at (c .max .ensures .value)) in
+    let small : mag (minZ low (pos 0)) < 2 ^ 64 = omega (arith, below, c .below-sign-below .ok) in
+    let large : mag (maxZ high (pos 0)) < 2 ^ 64 = omega (arith, above, c .below-sign-above .ok) in
     let zeros : c .min-2 .result ≡ min (leadingZeros 64 (mag (minZ low (pos 0)))) (leadingZeros 64 (mag (maxZ high (pos 0)))) = cc in
     record { least = subst (λ n. Least low high (64 - n + 1)) (sym zeros) (least-by-zeros low high small large); bound = omega arith }

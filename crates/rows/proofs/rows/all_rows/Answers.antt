@@ -5,7 +5,7 @@ use lib.ListN.{length, set}
 use borrow.Author.Needs.{needs}
 use Rattle.std.specs.declared.result.Result.the-variants.{Ok, Err}
 use Rattle.std.proofs.shelf.Results.{err-from-errBy}
-use Rattle.stages.specs.Kind.{mapped, over}
+use Rattle.stages.specs.Kind.{mapOk, over}
 use Rattle.rows.specs.Layout.{rowAt, outputsFrom}
 use Rattle.rows.proofs.Outputs.{Progress, progress-none, progress-more, progress-fails, progress-all}
 use Rattle.rows.proofs.rows.all_rows.Needs as need
@@ -30,10 +30,10 @@ returns-in-Break-made g c =
     let e = c .in-Break-made .field-0 .0 in
     let p = err-from-errBy (c .from-residual .result) (c .from-residual .ensures .1) in
     let fails = progress-fails f (c .args .layout .outputs) (c .args .out .now) (c .loop-o .o) (c .loop-o .made) e (c .loop-o-test .taken) (sym (c .one-row .ensures) ∙ c .in-Break-made .was tt) (c .loop-o .inv) in
-    record { answer = p .1 ∙ ap Err (p .2) ∙ ap (mapped (λ _. tt)) (sym fails); table = ap (λ r. over r (c .args .out .now)) (sym fails) }
+    record { answer = p .1 ∙ ap Err (p .2) ∙ ap (mapOk (λ _. tt)) (sym fails); table = ap (λ r. over r (c .args .out .now)) (sym fails) }
 
 pub returns : need.returns
 returns g c =
     let f = rowAt (g .E·Evaluated .rowOf (c .args .format .scales)) (c .args .layout) (c .args .bytes .now) (c .args .inputs .now) in
     let all = progress-all f (c .args .layout .outputs) (c .args .out .now) (c .loop-o .o) (c .loop-o .made) (omega arith) (c .loop-o .inv) in
-    record { answer = ap (mapped (λ _. tt)) (sym (all .0)); table = all .1 }
+    record { answer = ap (mapOk (λ _. tt)) (sym (all .0)); table = all .1 }

@@ -5,7 +5,7 @@ use borrow.Author.Needs.{needs}
 use lib.ListN.{length}
 use Rattle.std.specs.declared.option.Option.the-variants.{Some}
 use Rattle.std.specs.declared.result.Result.the-variants.{Ok}
-use Rattle.stages.specs.Kind.{setting, sizeOf, mapped, over}
+use Rattle.stages.specs.Kind.{setting, sizeOf, mapOk, over}
 use Rattle.rows.specs.declared.scales.Scales.{Scales}
 use Rattle.rows.specs.Plan.{scalesIn, codesIn}
 use Rattle.rows.specs.Layout.{rowAt, outputsFrom, codesBy}
@@ -33,6 +33,6 @@ returns-in-Ok g c =
     let f = rowAt (rowCode (c .in-Some-new .format .scales)) l (c .args .bytes .now) cs in
     let count = outputs-count f (outputsFrom f 0 (l .outputs)) (l .outputs) (outputs-many f 0 (l .outputs)) (made .answer) in
     record {
-      answer = ap Ok (c .from .ensures) ∙ count ∙ ap (mapped length) codes;
+      answer = ap Ok (c .from .ensures) ∙ count ∙ ap (mapOk length) codes;
       table = made .table ∙ ap (λ r. over r (c .args .out .now)) codes;
     }

@@ -1,0 +1,4 @@
+pub mod Stages
+pub mod Table
+pub mod Verdict
+pub mod Line

@@ -1,0 +1,5 @@
+// The verdict on a settings file.
+pub mod file;
+pub mod judging;
+pub mod line;
+pub mod stage;
