@@ -1,6 +1,7 @@
 // The verdict on a whole file, through any set of kinds.
 ghost use mathlib.Core.Path.{_≡_};
 ghost use Prim.Native.Nat.{_≤_};
+ghost use Rattle.verdict.specs.Certificate.{Certificate};
 ghost use Rattle.verdict.specs.Table.{inTable};
 ghost use Rattle.verdict.specs.Verdict.{closed, verdictOf};
 use crate::judging::judge_stages;
@@ -38,8 +39,8 @@ fn close(fields: Fields, records: &[u8], last: Shape, table: &[WireRow; 64]) -> 
     Ok(bound)
 }
 
-// The certified bound of a file, or its first refusal.
-pub fn judge<K: KindSet>(kinds: &K, file: &[u8]) -> Result<u32, Refusal>
+// The verdict by the rules alone.
+fn judge_file<K: KindSet>(kinds: &K, file: &[u8]) -> Result<u32, Refusal>
     ensures { λ r. ⌜ r ≡ verdictOf (meaning (now (kinds .entry))) (now (file .entry)) ⌝ }
 {
     let mut table = [NO_ROW; 64];
@@ -60,4 +61,13 @@ pub fn judge<K: KindSet>(kinds: &K, file: &[u8]) -> Result<u32, Refusal>
         &mut table,
     )?;
     close(fields, records, last, &table)
+}
+
+// The certified bound of a file, or its first refusal. An accepted file takes every frame inside its input ranges, and the
+// exact output is within the bound of the code, whatever the true inputs were within their errors.
+pub fn judge<K: KindSet>(kinds: &K, file: &[u8]) -> Result<u32, Refusal>
+    ensures answer { λ r. ⌜ r ≡ verdictOf (meaning (now (kinds .entry))) (now (file .entry)) ⌝ }
+    ensures certificate { λ r. ⌜ Certificate (meaning (now (kinds .entry))) (now (file .entry)) r ⌝ }
+{
+    judge_file(kinds, file)
 }
