@@ -8,6 +8,7 @@ use Rattle.stages.specs.declared.shape.Shape.{Shape}
 use Rattle.stages.specs.Network.{Stand, stand}
 use Rattle.stages.specs.Containment.{Stands}
 use Rattle.settings.specs.declared.refusal.Refusal.{Refusal}
+use Rattle.verdict.specs.declared.wires.Wires.{Wires}
 
 -- the wires in front of a table
 abbrev pub inTable : Shape → List WireRow → Stand
@@ -21,3 +22,7 @@ stood (Err e) table = Err e
 abbrev pub StandsIn : Result Shape Refusal → List WireRow → Type 0
 StandsIn (Ok s) table = Stands s (take (s .count) table)
 StandsIn (Err e) table = Unit {0}
+
+-- the wires that are answered with a table of their own
+abbrev pub wiresIn : Wires → Stand
+wiresIn w = inTable (w .shape) (w .rows)

@@ -2,7 +2,7 @@
 use mathlib.Core.Bool.{Bool, false, cond}
 use mathlib.Core.List.{List}
 use Prim.Native.Nat.{ℕ}
-use lib.Dec.{eqb, leb}
+use lib.Dec.{eqb, leb, ltb}
 use lib.ListN.{length, getD}
 use Rattle.std.specs.declared.option.Option.{Option}
 use Rattle.std.specs.declared.option.Option.the-variants.{Some, None}
@@ -42,6 +42,11 @@ closed h xs en =
     cond (ended (fromStage xs (h .stages)))
     (cond (eqb (en .shape .count) 1) (cond (leb (boundIn en) (h .«allowed_error»)) (Ok (boundIn en)) (Err (AllowedError (h .stages)))) (Err (OutputCount (h .stages))))
     (Err (TrailingBytes (h .stages)))
+
+-- The wires after stage k of a file, or after its last stage where there are fewer; k = 0 means the inputs.
+abbrev pub wiresUpTo : Kinds → List ℕ → ℕ → Result Stand Refusal
+wiresUpTo m file k =
+    andThen (headOf file) (λ h. wiresFrom m (h .header .accumulator) (h .rest) 0 (cond (ltb k (h .header .stages)) k (h .header .stages)) (inputsIn h))
 
 abbrev pub verdictFrom : Kinds → Head → Result ℕ Refusal
 verdictFrom m h =

@@ -6,18 +6,13 @@ ghost use Rattle.verdict.specs.Table.{inTable};
 ghost use Rattle.verdict.specs.Verdict.{closed, verdictOf};
 use crate::judging::judge_stages;
 use crate::stage::from_stage;
+use crate::wires::NO_ROW;
 use fixed::row::WireRow;
 use settings::fields::Fields;
 use settings::head::reads::read_head;
 use settings::refusal::Refusal;
 use stages::kind_set::KindSet;
 use stages::shape::Shape;
-
-const NO_ROW: WireRow = WireRow {
-    low: 0,
-    high: 0,
-    error: 0,
-};
 
 // The last checks: no bytes left, one output, and its error within the allowed one.
 fn close(fields: Fields, records: &[u8], last: Shape, table: &[WireRow; 64]) -> Result<u32, Refusal>

@@ -3,3 +3,4 @@ pub mod file;
 pub mod judging;
 pub mod line;
 pub mod stage;
+pub mod wires;

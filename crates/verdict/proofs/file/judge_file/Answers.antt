@@ -1,35 +1,23 @@
-use mathlib.Core.Path.{_≡_, ap, ap₂, sym, _∙_, subst}
+use mathlib.Core.Path.{_≡_, ap, ap₂, sym, _∙_}
 use mathlib.Core.List.{List}
-use Prim.Native.Nat.{ℕ, _≤_}
-use native.Mathlib.Omega.{arith}
-use lib.ListN.{take, drop}
-use borrow.Author.Needs.{needs}
+use Prim.Native.Nat.{ℕ}
+use lib.ListN.{drop}
 use Rattle.std.specs.declared.result.Result.{Result}
-use Rattle.std.specs.declared.result.Result.the-variants.{Ok}
 use Rattle.fixed.specs.Steps.{andThen}
-use Rattle.stages.specs.Containment.{Stands}
 use Rattle.settings.specs.declared.fields.Fields.{Fields}
 use Rattle.settings.specs.declared.refusal.Refusal.{Refusal}
-use Rattle.settings.specs.Head.{Head, headOf}
+use Rattle.settings.specs.Head.{headOf}
 use Rattle.verdict.specs.Stages.{wiresFrom}
 use Rattle.verdict.specs.Table.{inTable}
 use Rattle.verdict.specs.Verdict.{shapeIn, closed, verdictFrom, verdictOf}
-use Rattle.verdict.proofs.Heads.{inputs-stand}
+use Rattle.verdict.proofs.Heads.{ready}
 use Rattle.verdict.proofs.file.judge_file.Needs as need
 
 pub judge-stages-requires : need.judge-stages-requires
 judge-stages-requires g c κs =
     let told = c .in-Continue-head .ensures tt in
-    let f = c .in-Continue-head .head .header .fields in
-    let rows = c .read-head .last .rows in
-    let h : Head = record { header = f; inputs = take (f .inputs) rows; rest = drop (c .in-Continue-head .head .«stages_at») (c .args .file .now) } in
-    let sound = told .law .accepted h (sym (told .answer)) in
-    let same = sym (c .fields-fields .ensures) in
-    record {
-      accumulator = (subst (λ (k : Fields). 16 ≤ k .accumulator) same (sound .words .1), subst (λ (k : Fields). k .accumulator ≤ 56) same (sound .words .2));
-      few = subst (λ (k : Fields). k .stages ≤ 16) same (sound .counts .3);
-      stands = subst (λ (k : Fields). Stands (shapeIn k) (take (k .inputs) rows)) same (inputs-stand h sound);
-    }
+    let r = ready (c .args .file .now) (c .in-Continue-head .head .header .fields) (c .fields-fields .result) (c .read-head .last .rows) _ (told .law) (told .answer) (c .fields-fields .ensures) in
+    record { accumulator = r .accumulator; few = r .few; stands = r .stands }
 
 pub returns : need.returns
 returns g c =
