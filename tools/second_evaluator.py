@@ -3,6 +3,7 @@
 
   second_evaluator.py verdict FILE            the verdict line of a file
   second_evaluator.py files SEED COUNT        files in hexadecimal, each with the line that is expected of it
+  second_evaluator.py table SEED EACH          short files, EACH of them for each verdict, as entries of crates/cases/specs/Trials.antt
   second_evaluator.py compare SEED COUNT BIN  the same files through the program BIN; prints every disagreement
 """
 import random
@@ -295,7 +296,8 @@ def made_file(random):
                 continue
             record, n = bytes([5, size]), n * size
         records.append(record)
-    if n != 1 or not records or random.random() < 0.2:
+    one_output = random.random() < 0.96
+    if (n != 1 and one_output) or not records or random.random() < 0.2:
         records.append(row_record(random, 1, 1, n, fx, tame)[0])
     top = (1 << (word - 1)) - 1
     inputs = b""
@@ -309,6 +311,15 @@ def made_file(random):
     return data + b"".join(len(record).to_bytes(2, "big") + record for record in records)
 
 
+def stage_places(data):
+    """The places of the stages' kinds and sizes."""
+    place, places = 24 + 12 * data[3], []
+    while place + 3 < len(data):
+        places += [place + 2, place + 3]
+        place += 2 + unsigned(data[place:place + 2])
+    return places
+
+
 def damaged(random, data):
     """One byte altered, the end cut off, or bytes added."""
     way = random.random()
@@ -317,7 +328,7 @@ def damaged(random, data):
     if way < 0.15:
         return data + bytes(random.randint(1, 3))
     near_head = random.randrange(min(len(data), 48))
-    place = random.choice([near_head, random.randrange(len(data))])
+    place = random.choice([near_head, random.randrange(len(data)), random.choice(stage_places(data))])
     value = random.choice([0, 1, 2, 6, 16, 24, 31, 64, 65, 127, 128, 255, random.randrange(256)])
     return data[:place] + bytes([value]) + data[place + 1:]
 
@@ -329,6 +340,20 @@ def files(seed, count):
         yield data if source.random() < 0.4 else damaged(source, data)
 
 
+def table(seed, each):
+    """Short files, some for each verdict, as entries of a table of trials."""
+    found = {}
+    for data in files(seed, 20000):
+        line = verdict(data)
+        kind = line.split()[1] if line.startswith("refused") else "accepted"
+        chosen = found.setdefault(kind, [])
+        if len(chosen) < each and len(data) <= 200 and (data, line) not in chosen:
+            chosen.append((data, line))
+    for kind in sorted(found):
+        for data, line in found[kind]:
+            yield '    trial "%s" "%s\\n"' % (data.hex().upper(), line)
+
+
 def main(arguments):
     if arguments[:1] == ["verdict"]:
         with open(arguments[1], "rb") as file:
@@ -336,6 +361,8 @@ def main(arguments):
     elif arguments[:1] == ["files"]:
         for data in files(int(arguments[1]), int(arguments[2])):
             print(data.hex(), verdict(data))
+    elif arguments[:1] == ["table"]:
+        print("\n    ∷ ".join(entry.strip() for entry in table(int(arguments[1]), int(arguments[2]))))
     elif arguments[:1] == ["compare"]:
         differ = 0
         for data in files(int(arguments[1]), int(arguments[2])):
