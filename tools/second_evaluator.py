@@ -3,7 +3,7 @@
 
   second_evaluator.py verdict FILE            the verdict line of a file
   second_evaluator.py files SEED COUNT        files in hexadecimal, each with the line that is expected of it
-  second_evaluator.py table SEED EACH          short files, EACH of them for each verdict, as entries of crates/cases/specs/Trials.antt
+  second_evaluator.py table SEED EACH          short files, EACH of them for each refusal, as entries of crates/cases/specs/Trials.antt
   second_evaluator.py compare SEED COUNT BIN  the same files through the program BIN; prints every disagreement
 """
 import random
@@ -341,13 +341,14 @@ def files(seed, count):
 
 
 def table(seed, each):
-    """Short files, some for each verdict, as entries of a table of trials."""
+    """Short files, some for each refusal and more that are accepted, as entries of a table of trials."""
     found = {}
     for data in files(seed, 20000):
         line = verdict(data)
         kind = line.split()[1] if line.startswith("refused") else "accepted"
         chosen = found.setdefault(kind, [])
-        if len(chosen) < each and len(data) <= 200 and (data, line) not in chosen:
+        most, longest = (8 * each, 600) if kind == "accepted" else (each, 200)
+        if len(chosen) < most and len(data) <= longest and (data, line) not in chosen:
             chosen.append((data, line))
     for kind in sorted(found):
         for data, line in found[kind]:

@@ -38,6 +38,10 @@ abbrev pub wide : List ℕ
 wide =
     hex (codes "01002D020E0811010001F000004000000002000100000006000010000000138800010000000010000000138800010000001201010408080A00800000FF80000000000000")
 
+-- the example of a kiln's feeder, in examples/: four inputs, a full stage of three outputs and one of one
+abbrev pub kiln : List ℕ
+kiln = hex (codes "010045040C08280200400000008000000003000100000018FFFFFC00000003FF00001000FFFFFC00000003FF00001000FFFFFC00000003FF00001000FFFFFE00000001FF00002000004201030C1008100068F5C3005C28F6FFC7AE14002147AEFFD1EB8500851EB800451EB8FFE8F5C300147AE1FFB0A3D700A3D70A00333333000CCCCDFFFAE14800028F5C001601010C10081000B3333300733333FFB333330007AE14")
+
 abbrev pub commissioning : List Entry
 commissioning =
     judged reference (codes "accepted 61440\n")
@@ -53,6 +57,7 @@ commissioning =
     ∷ judged opposite (codes "accepted 126976\n")
     ∷ judged narrow (codes "refused 26 1 0\n")
     ∷ judged wide (codes "accepted 126976\n")
+    ∷ judged kiln (codes "accepted 229318\n")
     ∷ format 24 14 true
     ∷ format 24 13 false
     ∷ kept (3 ∷ 2 ∷ []) (pos 1 ∷ pos 4 ∷ pos 2 ∷ pos 2 ∷ negℤ (pos 7) ∷ []) (pos 4 ∷ pos 2 ∷ negℤ (pos 7) ∷ [])
