@@ -2,8 +2,9 @@
 """A second evaluator of settings files, with unbounded integers, written from docs/RULES.md alone.
 
   second_evaluator.py verdict FILE            the verdict line of a file
-  second_evaluator.py files SEED COUNT        files in hexadecimal, each with the line that is expected of it
-  second_evaluator.py table SEED EACH          short files, EACH of them for each refusal, as entries of crates/cases/specs/Trials.antt
+  second_evaluator.py files SEED COUNT        files in hexadecimal, each with the line that is expected of it;
+                                              crates/trials/stdin and stdout hold those of 7 300
+  second_evaluator.py table SEED EACH         short files, EACH of them for each refusal, as entries of crates/cases/specs/Trials.antt
   second_evaluator.py compare SEED COUNT BIN  the same files through the program BIN; prints every disagreement
 """
 import random
