@@ -6,6 +6,7 @@ ghost use Rattle.std.specs.declared.result.Result.the-variants.{Err as refused}
 ghost use Rattle.stages.specs.declared.shape.KindRefusal.the-variants.{Unknown as unknownKind};
 ghost use Rattle.stages.specs.Kind.{sizeOf};
 ghost use Rattle.keeping.specs.Keeping.{judged, shaped};
+use fixed::bytes::u8_at;
 use stages::shape::KindRefusal;
 use stages::shape::Shape;
 
@@ -13,7 +14,7 @@ use stages::shape::Shape;
 pub(crate) fn size_of(bytes: &[u8]) -> u8
     ensures { λ r. ⌜ r ≡ sizeOf (now (bytes .entry)) ⌝ }
 {
-    if bytes.len() > 1 { bytes[1] } else { 0 }
+    u8_at(bytes, 1)
 }
 
 // The first reason to refuse a record, if any.
