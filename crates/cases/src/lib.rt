@@ -1,4 +1,6 @@
 // The commissioning cases, true of the rules.
+#![tactic(auto)]
+
 ghost use Rattle.cases.specs.Entry.{AllHold};
 ghost use Rattle.cases.specs.Cases.{commissioning};
 ghost use Rattle.cases.specs.Premises.{PremisesMet};

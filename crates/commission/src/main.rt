@@ -1,4 +1,6 @@
 // Prints what each call of a script on standard input answers, made in order on one new relay.
+#![tactic(auto)]
+
 use console::read_bounded;
 use session::session_text;
 use std::io;

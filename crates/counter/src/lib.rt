@@ -1,4 +1,6 @@
 // The counter of a relay.
+#![tactic(auto)]
+
 ghost use Rattle.std.specs.Prelude.{◌≡◌};
 ghost use Rattle.counter.specs.Counter.{idle, counted, stepped};
 

@@ -1,4 +1,6 @@
 // Numbers of the relay: bytes, formats, words, shifts and wires.
+#![tactic(auto)]
+
 pub mod bytes;
 pub mod floor;
 pub mod format;

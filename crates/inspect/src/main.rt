@@ -1,4 +1,6 @@
 // Prints an account of the head of a settings file that stands on standard input.
+#![tactic(auto)]
+
 mod account;
 mod decimals;
 

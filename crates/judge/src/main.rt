@@ -1,4 +1,6 @@
 // Prints the verdict on a settings file that stands on standard input.
+#![tactic(auto)]
+
 ghost use Rattle.std.specs.Prelude.{◌≡◌, IfOk, string_bytes};
 ghost use Rattle.kinds.specs.Base.{base_kinds};
 ghost use Rattle.verdict.specs.Verdict.{verdict_of};

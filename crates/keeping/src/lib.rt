@@ -1,4 +1,6 @@
 // The stage kinds that keep the format: largest, rectifier and repeat, each a set of one kind.
+#![tactic(auto)]
+
 pub mod largest;
 pub mod laws;
 mod lists;

@@ -1,4 +1,6 @@
 // The kinds of this relay, as sets side by side.
+#![tactic(auto)]
+
 ghost use Rattle.std.specs.Prelude.{◌≡◌, is_some};
 ghost use Rattle.stages.specs.Network.{NetworkLaw};
 ghost use Rattle.kinds.specs.Base.{base_kinds};

@@ -1,4 +1,6 @@
 // Stages that multiply and accumulate: full and taps.
+#![tactic(auto)]
+
 mod error;
 mod evaluated;
 pub mod full;

@@ -1,4 +1,6 @@
 // Scripts of calls on a relay: read from text, and what each call answered printed.
+#![tactic(auto)]
+
 pub mod account;
 pub mod block;
 mod hex;

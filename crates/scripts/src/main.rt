@@ -1,4 +1,6 @@
 // The program `commission`, for the calls of the second evaluator.
+#![tactic(auto)]
+
 use console::read_bounded;
 use session::session_text;
 use std::io;

@@ -1,4 +1,6 @@
 // A script of calls, run on one new relay with the kinds of this relay.
+#![tactic(auto)]
+
 ghost use Rattle.std.specs.Prelude.{◌≡◌, ℕ, take, IfOk, string_bytes, OnOk};
 ghost use Rattle.kinds.specs.Base.{base_kinds};
 ghost use Rattle.relay.specs.Claims.{Claims};

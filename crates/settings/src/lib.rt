@@ -1,4 +1,6 @@
 // The settings file: its records, its header, and why it is refused.
+#![tactic(auto)]
+
 pub mod fields;
 pub mod head;
 pub mod header;

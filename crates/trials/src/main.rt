@@ -1,4 +1,6 @@
 // Prints the verdict on each settings file that stands in hexadecimal on a line of standard input.
+#![tactic(auto)]
+
 ghost use Rattle.std.specs.Prelude.{◌≡◌, ◌*◌, ◌≤◌, length, IfOk, string_bytes};
 ghost use Rattle.kinds.specs.Base.{base_kinds};
 ghost use Rattle.verdict.specs.Verdict.{verdict_of};

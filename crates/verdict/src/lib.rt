@@ -1,4 +1,6 @@
 // The verdict on a settings file, and what its network makes of codes.
+#![tactic(auto)]
+
 pub mod bench;
 pub mod file;
 pub mod judging;
