@@ -8,9 +8,9 @@ pub loop-i-preserved : goal.loop-i-preserved
 loop-i-preserved c =
     let i = c.loop-i.i in
     let f : ℕ → ℕ = byte_in c.args.line.now in
-    let one : 16 * c.digit-value-high.result + c.digit-value-low.result ≡ f i =
-    ap₂ (λ h l. 16 * h + l) c.digit-value-high.ensures.value c.digit-value-low.ensures.value in
-    let pushed : vec_items c.push.new.self ≡ vec_items c.loop-i.file ++ (16 * c.digit-value-high.result + c.digit-value-low.result) ∷ [] =
+    let one : 16 * c.digit_value-high.result + c.digit_value-low.result ≡ f i =
+    ap₂ (λ h l. 16 * h + l) c.digit_value-high.ensures.value c.digit_value-low.ensures.value in
+    let pushed : vec_items c.push.new.self ≡ vec_items c.loop-i.file ++ (16 * c.digit_value-high.result + c.digit_value-low.result) ∷ [] =
     search rules in
-    pushed ∙ ap (λ t. t ++ (16 * c.digit-value-high.result + c.digit-value-low.result) ∷ []) c.loop-i.invariant
+    pushed ∙ ap (λ t. t ++ (16 * c.digit_value-high.result + c.digit_value-low.result) ∷ []) c.loop-i.invariant
     ∙ ap (λ v. map f (range_with_len 0 i) ++ v ∷ []) one ∙ sym (map-range_with_len_more f 0 i i (omega arith))

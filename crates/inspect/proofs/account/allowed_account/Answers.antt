@@ -10,6 +10,6 @@ pub returns : goal.returns
 unfolding allowed_text
 returns c =
     let g : SFits w64 c.from.result = search rules in
-    let v : grains_text (pos c.args.fields.allowed_error) ≡ string_bytes c.in-ok-value.value =
-    ap grains_text (sym c.from.ensures) ∙ sym (simp to_z-of_z at c.in-ok-value.ensures) in
+    let v : grains_text (pos c.args.fields.allowed_error) ≡ string_bytes c.in_ok-value.value =
+    ap grains_text (sym c.from.ensures) ∙ sym (simp to_z-of_z at c.in_ok-value.ensures) in
     simp v c.format.ensures.ok

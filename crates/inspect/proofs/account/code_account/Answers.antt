@@ -13,8 +13,8 @@ returns c =
     let z = c.args.code in
     let p = c.ranges.code in
     let g : SFits w64 c.grains.result = search rules in
-    let n : signed_decimal z ≡ string_bytes c.in-ok-number.number = sym (simp to_z-of_z at c.in-ok-number.ensures) in
+    let n : signed_decimal z ≡ string_bytes c.in_ok-number.number = sym (simp to_z-of_z at c.in_ok-number.ensures) in
     let e : c.grains.result ≡ grains_of f z = simp to_z-of_z at c.grains.ensures in
-    let v : grains_text (grains_of f z) ≡ string_bytes c.in-ok-value.value =
-    ap grains_text (sym e) ∙ sym (simp to_z-of_z at c.in-ok-value.ensures) in
+    let v : grains_text (grains_of f z) ≡ string_bytes c.in_ok-value.value =
+    ap grains_text (sym e) ∙ sym (simp to_z-of_z at c.in_ok-value.ensures) in
     simp (n, v) c.format.ensures.ok

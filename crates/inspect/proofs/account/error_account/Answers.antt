@@ -9,6 +9,6 @@ unfolding error_text
 returns c =
     let row = c.args.row in
     let g : SFits w64 c.from.result = search rules in
-    let value : grains_text (pos row.error) ≡ string_bytes c.in-ok-value.value =
-    ap grains_text (sym c.from.ensures) ∙ sym (simp to_z-of_z at c.in-ok-value.ensures) in
-    simp (value, sym c.bits-needed-bits.ensures.value) c.format.ensures.ok
+    let value : grains_text (pos row.error) ≡ string_bytes c.in_ok-value.value =
+    ap grains_text (sym c.from.ensures) ∙ sym (simp to_z-of_z at c.in_ok-value.ensures) in
+    simp (value, sym c.bits_needed-bits.ensures.value) c.format.ensures.ok

@@ -11,7 +11,7 @@ returns c =
     let f : SFits w32 c.args.fields.level = search rules in
     let g : SFits w64 c.from.result = search rules in
     let e : c.from.result ≡ c.args.fields.level = simp to_z-of_z at c.from.ensures in
-    let l : signed_decimal c.args.fields.level ≡ string_bytes c.in-ok-level.level = sym (simp to_z-of_z at c.in-ok-level.ensures) in
-    let v : grains_text c.args.fields.level ≡ string_bytes c.in-ok-value.value =
-    ap grains_text (sym e) ∙ sym (simp to_z-of_z at c.in-ok-value.ensures) in
+    let l : signed_decimal c.args.fields.level ≡ string_bytes c.in_ok-level.level = sym (simp to_z-of_z at c.in_ok-level.ensures) in
+    let v : grains_text c.args.fields.level ≡ string_bytes c.in_ok-value.value =
+    ap grains_text (sym e) ∙ sym (simp to_z-of_z at c.in_ok-value.ensures) in
     simp (v, l) c.format.ensures.ok

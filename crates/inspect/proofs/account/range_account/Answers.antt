@@ -11,6 +11,6 @@ returns c =
     let f = c.args.format.fraction in
     let p : SFits w32 row.low = search rules in
     let q : SFits w32 row.high = search rules in
-    let low : code_text f row.low ≡ string_bytes c.in-ok-low.low = sym (simp to_z-of_z at c.in-ok-low.ensures) in
-    let high : code_text f row.high ≡ string_bytes c.in-ok-high.high = sym (simp to_z-of_z at c.in-ok-high.ensures) in
+    let low : code_text f row.low ≡ string_bytes c.in_ok-low.low = sym (simp to_z-of_z at c.in_ok-low.ensures) in
+    let high : code_text f row.high ≡ string_bytes c.in_ok-high.high = sym (simp to_z-of_z at c.in_ok-high.ensures) in
     simp (low, high) c.format.ensures.ok

@@ -27,7 +27,7 @@ loop-i-preserved g c =
           (omega (arith, w.made-is), cc (w.made-is, w.out-is), cc (w.made-is, w.out-is, w.left-is, w.largest-is))
       | else-left-eq0 w ↦
           let same = block_same larger p l.i l.left l.largest w.index-from-i-else-left-eq0.result xs lt w.index-from-i-else-left-eq0.is (omega (arith, w.if-left-eq0.false)) in
-          (omega (arith, w.made-is), cc (w.made-is, w.out-is, inv.1), cc (w.made-is, w.out-is, w.left-is, w.largest-is, w.larger-of-largest.ensures, inv.2))
+          (omega (arith, w.made-is), cc (w.made-is, w.out-is, inv.1), cc (w.made-is, w.out-is, w.left-is, w.largest-is, w.larger_of-largest.ensures, inv.2))
     ]
 
 pub returns : goal.returns

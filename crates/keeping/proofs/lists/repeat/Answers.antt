@@ -8,8 +8,8 @@ pub copies-requires : goal.copies-requires
 copies-requires g c =
     omega (arith, copies-room c.loop-i.i (length c.args.from.now) c.args.times c.loop-i.made c.loop-i.invariant.0 c.loop-i-test.true)
 
-pub overflow-add-made : goal.overflow-add-made
-overflow-add-made g c =
+pub overflow_add-made : goal.overflow_add-made
+overflow_add-made g c =
     omega (arith, copies-room c.loop-i.i (length c.args.from.now) c.args.times c.loop-i.made c.loop-i.invariant.0 c.loop-i-test.true)
 
 pub loop-i-preserved : goal.loop-i-preserved

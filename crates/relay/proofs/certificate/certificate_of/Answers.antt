@@ -10,11 +10,11 @@ use Rattle.relay.specs.Certificate.{certified_row, rows_for}
 use Rattle.relay.proofs.Accepted.{certifies, same-wires}
 use Rattle.relay.proofs.certificate.certificate_of.Goals as goal
 
-pub returns-in-default-wires-after : goal.returns-in-default-wires-after
-returns-in-default-wires-after g c =
+pub returns-in_default-wires_after : goal.returns-in_default-wires_after
+returns-in_default-wires_after g c =
     let m = g.K.KindSet.meaning c.args.kinds.now in
     let t = certifies m c.args.file.now c.in-Some.fields c.args.stage (length c.args.out.now) c.in-Some.ensures (omega arith) in
-    let e : ◌≡◌ {A = Result Stand Refusal} (Err c.in-default-wires-after.field-0) (Ok t.wires) = c.in-default-wires-after.ensures.value ∙ t.found in
+    let e : ◌≡◌ {A = Result Stand Refusal} (Err c.in_default-wires_after.field-0) (Ok t.wires) = c.in_default-wires_after.ensures.value ∙ t.found in
     let z : ◌≡◌ {A = ℕ} 0 1 = cc in
     absurd (omega arith)
 
@@ -46,6 +46,6 @@ returns g c =
     let count : c.from-count.result ≡ length (map certified_row w.wires) = omega arith in
     record {
       answer = ap Ok count ∙ sym (ap (map_ok length) e);
-      buffer = c.write-rows.ensures ∙ ap (λ (xs : List WireRow). map certified_row xs ++ drop (length xs) out) front
+      buffer = c.write_rows.ensures ∙ ap (λ (xs : List WireRow). map certified_row xs ++ drop (length xs) out) front
           ∙ ap (λ j. map certified_row w.wires ++ drop j out) (sym long) ∙ sym (ap (λ r. over r out) e);
     }

@@ -8,7 +8,7 @@ pub loop-i-preserved : goal.loop-i-preserved
 loop-i-preserved c =
     let i = c.loop-i.i in
     let more = fill-map-more certified_row c.args.wires.now c.args.out.now i no_row (omega arith) (omega arith) in
-    let one = c.certified-row.ensures in
+    let one = c.certified_row.ensures in
     cc
 
 pub returns : goal.returns

@@ -8,6 +8,6 @@ pub returns : goal.returns
 returns g c =
     let m = g.K.KindSet.meaning c.args.kinds in
     record {
-      answers = c.replies-to.ensures;
+      answers = c.replies_to.ensures;
       claims = λ n. claims-stand m (g.met.K.KindSet.lawful c.args.kinds) _ _ (run-way m begun (map call_in (take n c.args.requests.now)) new);
     }

@@ -18,12 +18,12 @@ loop-request-preserved g c =
     let more = run-more m xs i x (omega arith) c.request-item.is in
     let set = c.loop-request.invariant.0 in
     let at = c.loop-request.invariant.1 in
-    let told = c.in-ok-reply.ensures in
-    let pushed : vec_items c.push.new.self ≡ vec_items c.loop-request.replies ++ c.in-ok-reply.reply ∷ [] = search rules in
+    let told = c.in_ok-reply.ensures in
+    let pushed : vec_items c.push.new.self ≡ vec_items c.loop-request.replies ++ c.in_ok-reply.reply ∷ [] = search rules in
     let said = told.told ∙ ap₂ (λ k (s : State). told_by (event (call_in x) (called (mean k) s (call_in x)))) set at in (
       told.set ∙ set,
       told.state ∙ ap₂ (λ k (s : State). (called (mean k) s (call_in x)).after) set at ∙ sym (ap (λ (r : Run). r.state) more),
-      told_more (vec_items c.loop-request.replies) (vec_items c.push.new.self) c.in-ok-reply.reply run.events (event (call_in x) (called m run.state (call_in x)))
+      told_more (vec_items c.loop-request.replies) (vec_items c.push.new.self) c.in_ok-reply.reply run.events (event (call_in x) (called m run.state (call_in x)))
           c.loop-request.invariant.2 said pushed ∙ sym (ap (λ (r : Run). map told_by (reverse r.events)) more),
     )
 

@@ -15,9 +15,9 @@ loop-i-preserved c =
     let xs = c.args.rows.now in
     let i = c.loop-i.i in
     let p : SFits w32 (get_or ws i (pos 0)) = search rules in
-    let one : c.spread-of-total.result ≡ spread_of t (get_or ws i (pos 0)) (get_or xs i no_row) = simp to_z-of_z at c.spread-of-total.ensures.value in
+    let one : c.spread_of-total.result ≡ spread_of t (get_or ws i (pos 0)) (get_or xs i no_row) = simp to_z-of_z at c.spread_of-total.ensures.value in
     let more = spread-more t ws xs i (omega arith) (omega arith) in
-    (omega (arith, c.loop-i.invariant.0, c.spread-of-total.ensures.bound), omega (arith, c.loop-i.invariant.1, more, one))
+    (omega (arith, c.loop-i.invariant.0, c.spread_of-total.ensures.bound), omega (arith, c.loop-i.invariant.1, more, one))
 
 pub returns : goal.returns
 returns c =

@@ -15,7 +15,7 @@ returns c =
     let row = c.args.row in
     let f = c.ranges.weight in
     let same = c.scales-scales.ensures in
-    let size : c.from.result ≡ nat_abs z = c.from.ensures ∙ (simp to_z-of_z at c.unsigned-abs.ensures.value) in
+    let size : c.from.result ≡ nat_abs z = c.from.ensures ∙ (simp to_z-of_z at c.unsigned_abs.ensures.value) in
     let rest : c.from-3.result ≡ remainder z (24 - t.fw) =
     c.from-3.ensures ∙ (simp to_z-of_z at c.remainder.ensures.value) ∙ ap (λ (s : Scales). remainder z (24 - s.fw)) same in
     let far : c.from-4.result ≡ reach t.fx row = c.from-4.ensures ∙ c.reach.ensures.value ∙ ap (λ (s : Scales). reach s.fx row) same in

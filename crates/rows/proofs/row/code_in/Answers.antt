@@ -4,8 +4,8 @@ use Rattle.fixed.specs.Word.{fits_word}
 use Rattle.rows.specs.Sizes.{fits-code}
 use Rattle.rows.proofs.row.code_in.Goals as goal
 
-pub overflow-cast-result : goal.overflow-cast-result
-overflow-cast-result c =
+pub overflow_cast-result : goal.overflow_cast-result
+overflow_cast-result c =
     let f = c.ranges.value in
     let t : fits_word c.args.word c.args.value ≡ true = sym (simp to_z-of_z at c.if-fits.ensures) in
     simp to_z-of_z (fits-code c.args.word c.args.value c.requires t)

@@ -15,16 +15,16 @@ loop-o-preserved g c =
     let n = c.args.layout.outputs in
     let out = c.args.out.now in
     let o = c.loop-o.o in
-    let y = c.in-ok-made.field-0 in
-    let more = progress-more f n out o c.loop-o.made y c.loop-o-test.true (omega arith) (sym c.one-row.ensures ∙ c.in-ok-made.was) c.loop-o.invariant in
+    let y = c.in_ok-made.field-0 in
+    let more = progress-more f n out o c.loop-o.made y c.loop-o-test.true (omega arith) (sym c.one_row.ensures ∙ c.in_ok-made.was) c.loop-o.invariant in
     subst (λ (i : ℕ). Progress f n out (o + 1) (set c.loop-o.made i y)) (sym c.from.ensures) more
 
-pub returns-in-err-made : goal.returns-in-err-made
-returns-in-err-made g c =
+pub returns-in_err-made : goal.returns-in_err-made
+returns-in_err-made g c =
     let f = row_at (g.E.Evaluated.rowOf c.args.format.scales) c.args.layout c.args.bytes.now c.args.inputs.now in
-    let e = c.in-err-made.field-0.0 in
+    let e = c.in_err-made.field-0.0 in
     let p = err_from_is_err_and c.from-residual.result c.from-residual.ensures.1 in
-    let fails = progress-fails f c.args.layout.outputs c.args.out.now c.loop-o.o c.loop-o.made e c.loop-o-test.true (sym c.one-row.ensures ∙ c.in-err-made.was) c.loop-o.invariant in
+    let fails = progress-fails f c.args.layout.outputs c.args.out.now c.loop-o.o c.loop-o.made e c.loop-o-test.true (sym c.one_row.ensures ∙ c.in_err-made.was) c.loop-o.invariant in
     record { answer = p.1 ∙ ap Err p.2 ∙ ap (map_ok (λ _. tt)) (sym fails); table = ap (λ r. over r c.args.out.now) (sym fails) }
 
 pub returns : goal.returns

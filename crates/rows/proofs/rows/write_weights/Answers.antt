@@ -11,12 +11,12 @@ loop-j-preserved c =
     let j = c.loop-j.j in
     let start = c.from.result * c.from-2.result in
     let f : ℕ → ℤ = λ i. number_at c.args.bytes.now (start + i) in
-    let p : SFits w32 c.number-at.result = search rules in
+    let p : SFits w32 c.number_at.result = search rules in
     let room : j < length c.args.out.now = omega arith in
     let fill = fill_more (map f (range_with_len 0 j)) c.args.out.now j (f j) (pos 0) (length-map-range_with_len f 0 j) room in
-    let one : c.number-at.result ≡ f j = c.number-at.ensures ∙ ap f c.from-in-loop-j.ensures in
+    let one : c.number_at.result ≡ f j = c.number_at.ensures ∙ ap f c.from-in-loop-j.ensures in
     simp to_z-of_z
-    (ap (λ i. set c.loop-j.out i c.number-at.result) c.from-in-loop-j-2.ensures ∙ ap (λ (v : ℤ). set c.loop-j.out j v) one
+    (ap (λ i. set c.loop-j.out i c.number_at.result) c.from-in-loop-j-2.ensures ∙ ap (λ (v : ℤ). set c.loop-j.out j v) one
     ∙ ap (λ t. set t j (f j)) c.loop-j.invariant ∙ fill ∙ ap (λ t. t ++ drop (j + 1) c.args.out.now) (sym (map-range_with_len_more f 0 j j (omega arith))))
 
 pub returns : goal.returns

@@ -7,10 +7,10 @@ use Rattle.rows.specs.Row.{row_code}
 use Rattle.rows.specs.Outputs.{outputs-many, outputs-count}
 use Rattle.rows.proofs.through.run_plan.Goals as goal
 
-pub all-rows-requires : goal.all-rows-requires
-all-rows-requires g c =
+pub all_rows-requires : goal.all_rows-requires
+all_rows-requires g c =
     let given = c.requires.passes.1.0.stands in
-    let w = g.met.P.Plan.good c.u8-at.result c.args.before.count c.in-Some.layout given.sized.least given.sized.most (sym c.in-Some.ensures) in
+    let w = g.met.P.Plan.good c.u8_at.result c.args.before.count c.in-Some.layout given.sized.least given.sized.most (sym c.in-Some.ensures) in
     (lit< tt, (w.most, (w.short, λ o h. omega (arith, w.inside o h, c.requires.many))))
 
 pub returns-in-Ok : goal.returns-in-Ok
@@ -19,9 +19,9 @@ returns-in-Ok g c =
     let cs = c.args.codes.now in
     let l = c.in-Some.layout in
     let made = c.in-Ok.ensures in
-    let scales : c.in-Some-new.format.scales ≡ scales_in s = c.in-Some-new.ensures.parts ∙ c.scales-in.ensures in
+    let scales : c.in-Some-new.format.scales ≡ scales_in s = c.in-Some-new.ensures.parts ∙ c.scales_in.ensures in
     let plan : g.P.Plan.plan (size_of s.bytes) c.args.before.count ≡ Some l =
-    ap (λ k. g.P.Plan.plan k c.args.before.count) (sym c.u8-at.ensures) ∙ sym c.in-Some.ensures in
+    ap (λ k. g.P.Plan.plan k c.args.before.count) (sym c.u8_at.ensures) ∙ sym c.in-Some.ensures in
     let codes : codes_by c.in-Some-new.format.scales l c.args.bytes.now cs ≡ codes_in s cs (g.P.Plan.plan (size_of s.bytes) c.args.before.count) =
     ap (λ (t : Scales). codes_by t l c.args.bytes.now cs) scales ∙ ap (codes_in s cs) (sym plan) in
     let f = row_at (row_code c.in-Some-new.format.scales) l c.args.bytes.now cs in

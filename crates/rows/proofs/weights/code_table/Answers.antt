@@ -6,4 +6,4 @@ use Rattle.rows.proofs.weights.code_table.Goals as goal
 pub returns : goal.returns
 returns c =
     let ws = c.args.weights.now in
-    ap (take (length ws)) c.write-codes.ensures ∙ take_at _ _ (length ws) (length-map ws (weight_code c.args.format.scales))
+    ap (take (length ws)) c.write_codes.ensures ∙ take_at _ _ (length ws) (length-map ws (weight_code c.args.format.scales))

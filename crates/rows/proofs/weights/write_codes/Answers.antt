@@ -10,8 +10,8 @@ loop-i-preserved c =
     let ws = c.args.weights.now in
     let f = weight_code c.args.format.scales in
     let p : SFits w32 (get_or ws i (pos 0)) = search rules in
-    let q : SFits w32 c.weight-code.result = search rules in
-    let code : c.weight-code.result ≡ f (get_or ws i (pos 0)) = simp to_z-of_z at c.weight-code.ensures in
+    let q : SFits w32 c.weight_code.result = search rules in
+    let code : c.weight_code.result ≡ f (get_or ws i (pos 0)) = simp to_z-of_z at c.weight_code.ensures in
     let room : i < length c.args.out.now = omega arith in
     simp to_z-of_z
     (ap (λ (v : ℤ). set c.loop-i.out i v) code ∙ ap (λ t. set t i (f (get_or ws i (pos 0)))) c.loop-i.invariant

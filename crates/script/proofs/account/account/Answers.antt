@@ -15,13 +15,13 @@ byte-most false = omega arith
 pub loop-flag-preserved : goal.loop-flag-preserved
 loop-flag-preserved c =
     let h = c.from-taken.ensures in
-    let b = c.as-str.ensures.value ∙ c.in-ok-block.ensures in
-    let flag = get_or c.args.well-formed.now c.loop-flag.flag-index false in
+    let b = c.as_str.ensures.value ∙ c.in_ok-block.ensures in
+    let flag = get_or c.args.well_formed.now c.loop-flag.flag-index false in
     let one = byte-most flag in (
       omega (arith, h, c.loop-flag.invariant.0),
-      account-more c.args.well-formed.now c.loop-flag.flag-index c.loop-flag.taken c.from-taken.result false (map call_in c.args.requests.now) (map told_in c.args.replies.now) _ _ _ _
-          c.loop-flag-test.true (h ∙ byte-is flag) b c.in-ok-push-str.ensures.bytes c.loop-flag.invariant.1,
+      account-more c.args.well_formed.now c.loop-flag.flag-index c.loop-flag.taken c.from-taken.result false (map call_in c.args.requests.now) (map told_in c.args.replies.now) _ _ _ _
+          c.loop-flag-test.true (h ∙ byte-is flag) b c.in_ok-push_str.ensures.bytes c.loop-flag.invariant.1,
     )
 
 pub returns : goal.returns
-returns c = account-all c.args.well-formed.now c.loop-flag.flag-index _ _ _ _ c.loop-flag-test.false c.loop-flag.invariant.1
+returns c = account-all c.args.well_formed.now c.loop-flag.flag-index _ _ _ _ c.loop-flag-test.false c.loop-flag.invariant.1

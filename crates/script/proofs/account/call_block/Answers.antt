@@ -20,4 +20,4 @@ pub returns : goal.returns
 returns c =
     made-same string_bytes _ _ _
     (first-at c.args.at c.args.requests.now c.args.replies.now _ _ c.if-at-requests.false c.if-at-replies.false c.index-requests-at.is c.index-replies-at.is)
-    c.reply-block.ensures
+    c.reply_block.ensures

@@ -3,8 +3,8 @@ use Rattle.script.specs.Block.{rows_text}
 use Rattle.script.proofs.Texts.{take-shown}
 use Rattle.script.proofs.block.certificate_block.Goals as goal
 
-pub returns-in-ok-rows : goal.returns-in-ok-rows
-returns-in-ok-rows c =
-    let rows : string_bytes c.in-ok-rows.rows ≡ rows_text 0 (take c.in-Ok.count c.args.buffer.now) =
-    c.in-ok-rows.ensures ∙ ap (rows_text 0) (take-shown c.args.buffer.now c.in-Ok.count _ c.min-shown.ensures) in
+pub returns-in_ok-rows : goal.returns-in_ok-rows
+returns-in_ok-rows c =
+    let rows : string_bytes c.in_ok-rows.rows ≡ rows_text 0 (take c.in-Ok.count c.args.buffer.now) =
+    c.in_ok-rows.ensures ∙ ap (rows_text 0) (take-shown c.args.buffer.now c.in-Ok.count _ c.min-shown.ensures) in
     simp (c.in-Ok.is, sym rows) c.format.ensures.ok

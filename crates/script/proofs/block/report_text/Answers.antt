@@ -4,4 +4,4 @@ use Rattle.script.proofs.block.report_text.Goals as goal
 
 pub returns : goal.returns
 unfolding report_text
-returns c = simp (sym c.in-ok-status.ensures) c.format.ensures.ok
+returns c = simp (sym c.in_ok-status.ensures) c.format.ensures.ok

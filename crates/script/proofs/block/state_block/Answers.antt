@@ -1,5 +1,5 @@
 use Rattle.std.proofs.Common.{◌≡◌, sym}
 use Rattle.script.proofs.block.state_block.Goals as goal
 
-pub returns-in-ok-report : goal.returns-in-ok-report
-returns-in-ok-report c = simp (c.in-Ok.is, sym c.in-ok-report.ensures) c.format.ensures.ok
+pub returns-in_ok-report : goal.returns-in_ok-report
+returns-in_ok-report c = simp (c.in-Ok.is, sym c.in_ok-report.ensures) c.format.ensures.ok

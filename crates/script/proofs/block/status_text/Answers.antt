@@ -7,4 +7,4 @@ pub returns : goal.returns
 unfolding status_text
 returns c =
     let p : SFits w32 c.args.status.code = search rules in
-    simp (sym c.picked-word-picked.ensures, sym c.trip-word-trip.ensures) (simp to_z-of_z at c.format.ensures.ok)
+    simp (sym c.picked_word-picked.ensures, sym c.trip_word-trip.ensures) (simp to_z-of_z at c.format.ensures.ok)

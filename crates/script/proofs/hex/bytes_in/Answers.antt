@@ -10,7 +10,7 @@ loop-left-preserved c =
     let bytes = vec_items c.loop-left.bytes in
     let rest = bytes_in (take (length left - 2) (drop 2 left)) in
     let h : 2 ≤ length left = search rules in
-    let pushed : vec_items c.push.new.self ≡ bytes ++ c.in-Some.byte ∷ [] = c.in-ok-push.ensures.items in
+    let pushed : vec_items c.push.new.self ≡ bytes ++ c.in-Some.byte ∷ [] = c.in_ok-push.ensures.items in
     let one : Some c.in-Some.byte ≡ byte_by (hex_digit (get_or left 0 0)) (hex_digit (get_or left 1 0)) = c.in-Some.ensures in
     ap (λ t. prepended t rest) pushed
     ∙ sym (prepended-more bytes c.in-Some.byte rest)

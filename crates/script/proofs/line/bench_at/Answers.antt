@@ -17,4 +17,4 @@ returns-in-Some c =
     made-same (option_map call_in) _ _ _
     (ap (λ qs. bench_by (Some k) (Some c.in-Some.places.value) (codes_in qs)) q
     ∙ ap (λ o. bench_by (Some k) o (codes_in ps)) c.in-Some.ensures.value)
-    c.bench-with.ensures
+    c.bench_with.ensures

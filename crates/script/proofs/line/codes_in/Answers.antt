@@ -9,9 +9,9 @@ pub returns-in-None : goal.returns-in-None
 returns-in-None c =
     let left = c.loop-left.left.now in
     let codes = vec_items c.loop-left.codes in
-    let R = codes_in (parts_after 32 (drop (1 + c.part-len-len.result) left)) in
+    let R = codes_in (parts_after 32 (drop (1 + c.part_len-len.result) left)) in
     let h : 1 ≤ length left = search rules in
-    let np = next-part 32 c.part-len-len.result left h c.part-len-len.ensures.parts in
+    let np = next-part 32 c.part_len-len.result left h c.part_len-len.ensures.parts in
     ap (λ o. prepended codes (onto o R)) c.in-None.ensures
     ∙ sym (ap (λ ps. prepended codes (codes_in ps)) np)
     ∙ c.loop-left.invariant
@@ -20,12 +20,12 @@ pub loop-left-preserved : goal.loop-left-preserved
 loop-left-preserved c =
     let left = c.loop-left.left.now in
     let codes = vec_items c.loop-left.codes in
-    let len = c.part-len-len.result in
+    let len = c.part_len-len.result in
     let R = codes_in (parts_after 32 (drop (1 + len) left)) in
     let h : 1 ≤ length left = search rules in
-    let np = next-part 32 len left h c.part-len-len.ensures.parts in
+    let np = next-part 32 len left h c.part_len-len.ensures.parts in
     let fits : SFits w32 c.in-Some.code = search rules in
-    let pushed : vec_items c.push.new.self ≡ codes ++ c.in-Some.code ∷ [] = simp to_z-of_z at c.in-ok-push.ensures.items in
+    let pushed : vec_items c.push.new.self ≡ codes ++ c.in-Some.code ∷ [] = simp to_z-of_z at c.in_ok-push.ensures.items in
     ap (λ t. prepended t (codes_in (parts_after 32 (take (length (behind left) - len) (drop len (behind left)))))) pushed
     ∙ ap (λ u. prepended (codes ++ c.in-Some.code ∷ []) (codes_in (parts_after 32 u))) (behind-drop len left)
     ∙ sym (prepended-more codes c.in-Some.code R)

@@ -16,4 +16,4 @@ returns-in-Some c =
     made-same (option_map call_in) _ _ _
     (ap (λ qs. bench_by (Some c.in-Some.stage.value) (first_number qs) (codes_in (further qs))) q
     ∙ ap (λ o. bench_by o (first_number ps) (codes_in (further ps))) c.in-Some.ensures.value)
-    c.bench-at.ensures
+    c.bench_at.ensures

@@ -9,6 +9,6 @@ returns-in-Some c =
     let rest = c.args.rest.now in
     let ps = further (parts_after 32 rest) in
     let q = ap (parts_after 32) (take_rest rest c.in-Some.stage.used) ∙ sym c.in-Some.ensures.behind.1 in
-    c.certificate-at.ensures
+    c.certificate_at.ensures
     ∙ ap (λ qs. certificate_by (Some c.in-Some.stage.value) (first_number qs) (further qs)) q
     ∙ ap (λ o. certificate_by o (first_number ps) (further ps)) c.in-Some.ensures.value

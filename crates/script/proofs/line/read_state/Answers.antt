@@ -5,7 +5,7 @@ use Rattle.script.specs.Lines.{alone}
 use Rattle.script.proofs.Steps.{more_parts}
 use Rattle.script.proofs.line.read_state.Goals as goal
 
-pub returns-else-is-empty : goal.returns-else-is-empty
-returns-else-is-empty c =
+pub returns-else-is_empty : goal.returns-else-is_empty
+returns-else-is_empty c =
     let h : 0 < length c.args.rest.now = grind (arith, nat_tests) in
     sym (more_parts (alone state) None (λ p ps. refl) 32 c.args.rest.now h)

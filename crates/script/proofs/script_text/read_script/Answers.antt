@@ -11,17 +11,17 @@ pub loop-left-preserved : goal.loop-left-preserved
 loop-left-preserved c =
     let left = c.loop-left.left.now in
     let some : 0 < length left = grind (arith, nat_tests) in
-    let len = c.part-len-len.result in
-    let cut = lines_more left len (min (length left - len) 1) some c.part-len-len.ensures.bound refl c.part-len-len.ensures.parts
-    ∙ ap (λ n. take (len - 0) left ∷ lines_of (take (length left - n) (drop n left))) (sym c.next-start-next.ensures) in (
-      lines-on flags_of (λ l. is_some (call_of l) ∷ []) (λ l ls. refl) _ _ _ _ _ _ cut c.loop-left.invariant.0 c.in-ok-add-line.ensures.flags,
-      lines-on calls_of (λ l. option_to_list (call_of l)) (λ l ls. refl) _ _ _ _ _ _ cut c.loop-left.invariant.1 c.in-ok-add-line.ensures.calls,
+    let len = c.part_len-len.result in
+    let cut = lines_more left len (min (length left - len) 1) some c.part_len-len.ensures.bound refl c.part_len-len.ensures.parts
+    ∙ ap (λ n. take (len - 0) left ∷ lines_of (take (length left - n) (drop n left))) (sym c.next_start-next.ensures) in (
+      lines-on flags_of (λ l. is_some (call_of l) ∷ []) (λ l ls. refl) _ _ _ _ _ _ cut c.loop-left.invariant.0 c.in_ok-add_line.ensures.flags,
+      lines-on calls_of (λ l. option_to_list (call_of l)) (λ l ls. refl) _ _ _ _ _ _ cut c.loop-left.invariant.1 c.in_ok-add_line.ensures.calls,
     )
 
 pub returns : goal.returns
 returns c =
     let left = c.loop-left.left.now in
-    let flags = vec_items c.loop-left.well-formed in
+    let flags = vec_items c.loop-left.well_formed in
     let calls = map call_in (vec_items c.loop-left.requests) in
     let none : length left ≡ 0 = grind (arith, nat_tests) in
     let cut = sym (lines_none left none) in

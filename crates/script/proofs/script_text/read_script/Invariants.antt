@@ -5,7 +5,7 @@ use Rattle.script.proofs.script_text.read_script.Given as goal
 
 abbrev pub invariant-loop-left : goal.invariant-loop-left
 invariant-loop-left l =
-    (vec_items l.well-formed ++ flags_of (lines_of l.left) ≡ flags_of (lines_of l.text))
+    (vec_items l.well_formed ++ flags_of (lines_of l.left) ≡ flags_of (lines_of l.text))
     × (map call_in (vec_items l.requests) ++ calls_of (lines_of l.left) ≡ calls_of (lines_of l.text))
 
 abbrev pub decreases-loop-left : goal.decreases-loop-left

@@ -16,7 +16,7 @@ loop-k-preserved g c =
     let told = c.in-Ok.ensures in (
       told.stands,
       c.loop-k.invariant.1 ∙ more ∙ ap (λ r. and_then r (wires_from m a xs (k + 1) (c.args.stages - k - 1))) (sym told.value)
-          ∙ ap (λ j. wires_from m a xs (k + 1) j (in_table c.in-Ok.next c.judge-stage.new.table)) left,
+          ∙ ap (λ j. wires_from m a xs (k + 1) j (in_table c.in-Ok.next c.judge_stage.new.table)) left,
     )
 
 pub returns-in-Err : goal.returns-in-Err

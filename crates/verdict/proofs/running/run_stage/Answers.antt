@@ -26,7 +26,7 @@ returns-in-Ok-run g c =
     let rows = c.args.table.now in
     let codes = c.args.codes.now in
     let st = in_table before rows in
-    let en = in_table c.in-Ok.after c.judge-stage.new.table in
+    let en = in_table c.in-Ok.after c.judge_stage.new.table in
     let o : Option Split = Some (record { front = b; rest = c.in-Some.split.rest.now }) in
     let found = c.in-Some.ensures in
     let passed : wires_past m a (c.args.k + 1) st o ≡ Ok en = ap (wires_past m a (c.args.k + 1) st) found ∙ sym c.in-Ok.ensures.value in

@@ -15,7 +15,7 @@ loop-k-preserved g c =
     let told = c.in-Ok.ensures in (
       told.stands,
       c.loop-k.invariant.1 ∙ more ∙ ap (λ r. and_then r (frame_from m a xs (k + 1) (c.args.stages - k - 1))) (sym told.value)
-          ∙ ap (λ j. frame_from m a xs (k + 1) j (in_tables c.in-Ok.next c.run-stage.new.table c.run-stage.new.codes)) left,
+          ∙ ap (λ j. frame_from m a xs (k + 1) j (in_tables c.in-Ok.next c.run_stage.new.table c.run_stage.new.codes)) left,
     )
 
 pub returns-in-Err : goal.returns-in-Err

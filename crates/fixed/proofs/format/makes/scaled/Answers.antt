@@ -3,8 +3,8 @@ use Rattle.std.proofs.lemmas.Int.{to_z-of_z}
 use Rattle.fixed.proofs.Scales.{unit-is, scaled_fits}
 use Rattle.fixed.proofs.format.makes.scaled.Goals as goal
 
-pub overflow-mul-result : goal.overflow-mul-result
-overflow-mul-result c =
+pub overflow_mul-result : goal.overflow_mul-result
+overflow_mul-result c =
     let k = c.args.places in
     let f = c.ranges.code in
     let e : c.from.result ≡ c.args.code = simp to_z-of_z at c.from.ensures in

@@ -25,24 +25,24 @@ pub returns-in-Some : goal.returns-in-Some
 returns-in-Some g c =
     let m = g.K.KindSet.meaning c.args.kinds.now in
     let f = c.in-Ok.head.header.fields in
-    let rows = c.read-head.new.rows in
+    let rows = c.read_head.new.rows in
     let cs = c.args.codes.now in
     let told = c.in-Ok.ensures.answer in
     let h : Head = record { header = f; inputs = take f.inputs rows; rest = drop c.in-Ok.head.stages_at c.args.file.now } in
     let same = front f c.fields-fields.result rows c.from.result c.fields-fields.ensures c.from.ensures in
     let fault : frame_fault h.inputs cs ≡ Some c.in-Some.fault = ap (λ xs. frame_fault xs cs) (sym same) ∙ sym c.in-Some.ensures in
-    ap Err c.refused-or-none.ensures ∙ ap (λ r. Err (unless_none (loaded_from m r) c.in-Some.fault)) (sym told)
+    ap Err c.refused_or_none.ensures ∙ ap (λ r. Err (unless_none (loaded_from m r) c.in-Some.fault)) (sym told)
     ∙ sym (fault-is-output m h cs c.in-Some.fault fault) ∙ ap (λ r. output_in m (loaded_from m r) cs) told
 
-pub run-frame-requires : goal.run-frame-requires
-run-frame-requires g c =
+pub run_frame-requires : goal.run_frame-requires
+run_frame-requires g c =
     let f = c.in-Ok.head.header.fields in
     let k = c.fields-fields.result in
-    let rows = c.read-head.new.rows in
+    let rows = c.read_head.new.rows in
     let told = c.in-Ok.ensures in
     let r = ready c.args.file.now f k rows _ told.law told.answer c.fields-fields.ensures in
     let same = front k k rows c.from.result refl c.from.ensures in
-    let count = no-fault-count (take (c.from.result - 0) rows) c.args.codes.now (sym c.in-default-frame-fault.ensures) in
+    let count = no-fault-count (take (c.from.result - 0) rows) c.args.codes.now (sym c.in_default-frame_fault.ensures) in
     record {
       accumulator = r.accumulator;
       few = r.few;
@@ -62,15 +62,15 @@ passed m file rest f k rows at i cs r same n after told none e =
     subst (λ (o : Result Head Refusal). settled (loaded_from m o) r ≡ output_in m (loaded_from m o) cs) told
     (ap (settled (loaded_from m (Ok h))) pass ∙ sym (pass-is-output m h cs fault))
 
-pub returns-in-Ok-run-frame : goal.returns-in-Ok-run-frame
-returns-in-Ok-run-frame g c =
-    passed (g.K.KindSet.meaning c.args.kinds.now) c.args.file.now c.rest.result.now c.in-Ok.head.header.fields c.fields-fields.result c.read-head.new.rows
-    c.in-Ok.head.stages_at c.from.result c.args.codes.now (Ok c.in-Ok-run-frame.output) c.fields-fields.ensures c.from.ensures c.rest.ensures
-    c.in-Ok.ensures.answer c.in-default-frame-fault.ensures c.in-Ok-run-frame.ensures
+pub returns-in-Ok-run_frame : goal.returns-in-Ok-run_frame
+returns-in-Ok-run_frame g c =
+    passed (g.K.KindSet.meaning c.args.kinds.now) c.args.file.now c.rest.result.now c.in-Ok.head.header.fields c.fields-fields.result c.read_head.new.rows
+    c.in-Ok.head.stages_at c.from.result c.args.codes.now (Ok c.in-Ok-run_frame.output) c.fields-fields.ensures c.from.ensures c.rest.ensures
+    c.in-Ok.ensures.answer c.in_default-frame_fault.ensures c.in-Ok-run_frame.ensures
 
 pub returns-in-Err : goal.returns-in-Err
 returns-in-Err g c =
-    ap Err c.refused-or-none-in-Err.ensures
-    ∙ passed (g.K.KindSet.meaning c.args.kinds.now) c.args.file.now c.rest.result.now c.in-Ok.head.header.fields c.fields-fields.result c.read-head.new.rows
+    ap Err c.refused_or_none-in-Err.ensures
+    ∙ passed (g.K.KindSet.meaning c.args.kinds.now) c.args.file.now c.rest.result.now c.in-Ok.head.header.fields c.fields-fields.result c.read_head.new.rows
     c.in-Ok.head.stages_at c.from.result c.args.codes.now (Err c.in-Err.refusal) c.fields-fields.ensures c.from.ensures c.rest.ensures
-    c.in-Ok.ensures.answer c.in-default-frame-fault.ensures c.in-Err.ensures
+    c.in-Ok.ensures.answer c.in_default-frame_fault.ensures c.in-Err.ensures
