@@ -1,6 +1,6 @@
 // What the records of these kinds have in common: their size, their two bytes, and the format that stays.
 ghost use Rattle.std.specs.Prelude.{◌≡◌, ◌≤◌, if◌then◌else◌, Err as refused};
-ghost use Rattle.stages.specs.declared.shape.KindRefusal.TheVariants.{Unknown as unknownKind};
+ghost use Rattle.stages.specs.declared.shape.KindRefusal.TheVariants.{Unknown as unknown_kind};
 ghost use Rattle.stages.specs.Kind.{size_of};
 ghost use Rattle.keeping.specs.Keeping.{judged, shaped};
 
@@ -16,7 +16,7 @@ pub(crate) fn size_of(bytes: &[u8]) -> u8
 
 // The first reason to refuse a record, if any.
 pub(crate) fn check_record(known: bool, within: bool, bytes: &[u8]) -> Result<(), KindRefusal>
-    ensures { result ≡ (if known then judged within bytes.now tt else refused unknownKind) }
+    ensures { result ≡ (if known then judged within bytes.now tt else refused unknown_kind) }
 {
     if !known {
         Err(KindRefusal::Unknown)

@@ -1,7 +1,7 @@
 // What largest and rectifier ask of an element: a code or a wire.
 ghost use Rattle.std.specs.Prelude.{◌≡◌};
 ghost use Rattle.std.specs.Int.{int_max};
-ghost use Rattle.keeping.specs.Signals.{rectified as rectifiedCode, larger_row, rectified_row};
+ghost use Rattle.keeping.specs.Signals.{rectified as rectified_code, larger_row, rectified_row};
 
 use fixed::row::WireRow;
 
@@ -20,7 +20,7 @@ pub trait Signal: Copy {
 impl Signal for i32 {
     ghost larger = { int_max };
 
-    ghost rectified = { rectifiedCode };
+    ghost rectified = { rectified_code };
 
     fn larger_of(self, other: i32) -> i32 {
         self.max(other)

@@ -37,8 +37,8 @@ pub(crate) fn certificate_of<K: KindSet>(
     stage: u32,
     out: &mut [CertificateRow],
 ) -> Result<usize, Refusal>
-    ensures answer { result ≡ map_ok length (certificate_in (meaning kinds.now) (loaded_in (meaning kinds.now) file.now) stage (length out.old)) }
-    ensures buffer { out.new ≡ over (certificate_in (meaning kinds.now) (loaded_in (meaning kinds.now) file.now) stage (length out.old)) out.old }
+    ensures answer { result ≡ map_ok length (certificate_in (K.meaning kinds.now) (loaded_in (K.meaning kinds.now) file.now) stage (length out.old)) }
+    ensures buffer { out.new ≡ over (certificate_in (K.meaning kinds.now) (loaded_in (K.meaning kinds.now) file.now) stage (length out.old)) out.old }
 {
     let Some(fields) = fields_of(kinds, file) else {
         return Err(Refusal::NoFile);

@@ -27,7 +27,7 @@ fn certificate_reply<K: KindSet>(
     stage: u32,
     places: u8,
 ) -> Result<Reply, AllocError>
-    ensures { IfOk result (λ reply. told_in reply ≡ told_of (meaning relay.now.kinds) (held relay.now) (certificate stage (replicate places no_certificate))) }
+    ensures { IfOk result (λ reply. told_in reply ≡ told_of (K.meaning relay.now.kinds) (held relay.now) (certificate stage (replicate places no_certificate))) }
 {
     let mut buffer = vec![in heap; NO_CERTIFICATE; usize::from(places)]?;
     let answer = relay.certificate(stage, buffer.as_mut_slice());
@@ -42,7 +42,7 @@ fn bench_reply<K: KindSet>(
     places: u8,
     codes: &[i32],
 ) -> Result<Reply, AllocError>
-    ensures { IfOk result (λ reply. told_in reply ≡ told_of (meaning relay.now.kinds) (held relay.now) (bench stage codes.now (replicate places (pos 0)))) }
+    ensures { IfOk result (λ reply. told_in reply ≡ told_of (K.meaning relay.now.kinds) (held relay.now) (bench stage codes.now (replicate places (pos 0)))) }
 {
     let mut buffer = vec![in heap; 0i32; usize::from(places)]?;
     let answer = relay.bench(stage, codes, buffer.as_mut_slice());
@@ -55,8 +55,8 @@ fn make<K: KindSet>(
     relay: &mut Relay<K>,
     request: &Request,
 ) -> Result<Reply, AllocError>
-    ensures told { IfOk result (λ reply. told_in reply ≡ told_of (meaning relay.old.kinds) (held relay.old) (call_in request.now)) }
-    ensures state { held relay.new ≡ (called (meaning relay.old.kinds) (held relay.old) (call_in request.now)).after }
+    ensures told { IfOk result (λ reply. told_in reply ≡ told_of (K.meaning relay.old.kinds) (held relay.old) (call_in request.now)) }
+    ensures state { held relay.new ≡ (called (K.meaning relay.old.kinds) (held relay.old) (call_in request.now)).after }
     ensures set { relay.new.kinds ≡ relay.old.kinds }
 {
     match request {
@@ -79,7 +79,7 @@ fn replies_to<K: KindSet + Drop>(
     kinds: K,
     requests: &[Request],
 ) -> Result<Vec<Reply>, AllocError>
-    ensures { IfOk result (λ replies. map told_in replies.items ≡ map told_by (reverse (run_on (meaning kinds) begun (map call_in requests.now)).events)) }
+    ensures { IfOk result (λ replies. map told_in replies.items ≡ map told_by (reverse (run_on (K.meaning kinds) begun (map call_in requests.now)).events)) }
 {
     let mut relay = Relay::new(kinds);
     let mut replies = Vec::new(heap);
@@ -96,8 +96,8 @@ fn claimed_replies<K: KindSet + Drop>(
     kinds: K,
     requests: &[Request],
 ) -> Result<Vec<Reply>, AllocError>
-    ensures answers { IfOk result (λ replies. map told_in replies.items ≡ map told_by (reverse (run_on (meaning kinds) begun (map call_in requests.now)).events)) }
-    ensures claims { (n : ℕ) → Claims (meaning kinds) (run_on (meaning kinds) begun (map call_in (take n requests.now))).events (run_on (meaning kinds) begun (map call_in (take n requests.now))).state }
+    ensures answers { IfOk result (λ replies. map told_in replies.items ≡ map told_by (reverse (run_on (K.meaning kinds) begun (map call_in requests.now)).events)) }
+    ensures claims { (n : ℕ) → Claims (K.meaning kinds) (run_on (K.meaning kinds) begun (map call_in (take n requests.now))).events (run_on (K.meaning kinds) begun (map call_in (take n requests.now))).state }
 {
     replies_to(heap, kinds, requests)
 }
@@ -109,8 +109,8 @@ pub fn replay<K: KindSet + Drop>(
     kinds: K,
     requests: &[Request],
 ) -> Result<Vec<Reply>, AllocError>
-    ensures answers { IfOk result (λ replies. map told_in replies.items ≡ map told_by (reverse (run_on (meaning kinds) begun (map call_in requests.now)).events)) }
-    ensures claims { (n : ℕ) → Claims (meaning kinds) (run_on (meaning kinds) begun (map call_in (take n requests.now))).events (run_on (meaning kinds) begun (map call_in (take n requests.now))).state }
+    ensures answers { IfOk result (λ replies. map told_in replies.items ≡ map told_by (reverse (run_on (K.meaning kinds) begun (map call_in requests.now)).events)) }
+    ensures claims { (n : ℕ) → Claims (K.meaning kinds) (run_on (K.meaning kinds) begun (map call_in (take n requests.now))).events (run_on (K.meaning kinds) begun (map call_in (take n requests.now))).state }
 {
     claimed_replies(heap, kinds, requests)
 }

@@ -5,5 +5,5 @@ use crate::kind_set::KindSet;
 
 // Its contract is the law, from the law of the set's kinds alone.
 pub fn network_law<K: KindSet>(kinds: &K)
-    ensures { NetworkLaw (meaning kinds.now) }
+    ensures { NetworkLaw (K.meaning kinds.now) }
 {}

@@ -38,8 +38,8 @@ fn try_stage<K: KindSet>(
     requires accumulator { (16 ≤ accumulator) × (accumulator ≤ 56) }
     requires few { k < 16 }
     requires stands { Stands before.shape (wires_in before).wires }
-    ensures answer { result ≡ map_ok length (tried (meaning kinds.now) accumulator (k + 1) (wires_in before) codes.now (length out.old) (stage_at records.now k)) }
-    ensures buffer { out.new ≡ over (tried (meaning kinds.now) accumulator (k + 1) (wires_in before) codes.now (length out.old) (stage_at records.now k)) out.old }
+    ensures answer { result ≡ map_ok length (tried (K.meaning kinds.now) accumulator (k + 1) (wires_in before) codes.now (length out.old) (stage_at records.now k)) }
+    ensures buffer { out.new ≡ over (tried (K.meaning kinds.now) accumulator (k + 1) (wires_in before) codes.now (length out.old) (stage_at records.now k)) out.old }
 {
     if codes.len() != usize::from(before.shape.count) {
         return Err(Refusal::CodeCount);
@@ -80,8 +80,8 @@ pub fn bench_of<K: KindSet>(
     codes: &[i32],
     out: &mut [i32],
 ) -> Result<usize, Refusal>
-    ensures answer { result ≡ map_ok length (bench_in (meaning kinds.now) (loaded_in (meaning kinds.now) file.now) stage codes.now (length out.old)) }
-    ensures buffer { out.new ≡ over (bench_in (meaning kinds.now) (loaded_in (meaning kinds.now) file.now) stage codes.now (length out.old)) out.old }
+    ensures answer { result ≡ map_ok length (bench_in (K.meaning kinds.now) (loaded_in (K.meaning kinds.now) file.now) stage codes.now (length out.old)) }
+    ensures buffer { out.new ≡ over (bench_in (K.meaning kinds.now) (loaded_in (K.meaning kinds.now) file.now) stage codes.now (length out.old)) out.old }
 {
     let mut table = [NO_ROW; 64];
     let Ok(head) = read_head(file, &mut table) else {

@@ -41,7 +41,7 @@ pub(crate) fn close(
 
 // The verdict by the rules alone.
 pub(crate) fn judge_file<K: KindSet>(kinds: &K, file: &[u8]) -> Result<u32, Refusal>
-    ensures { result ≡ verdict_of (meaning kinds.now) file.now }
+    ensures { result ≡ verdict_of (K.meaning kinds.now) file.now }
 {
     let mut table = [NO_ROW; 64];
     let head = read_head(file, &mut table)?;
@@ -62,8 +62,8 @@ pub(crate) fn judge_file<K: KindSet>(kinds: &K, file: &[u8]) -> Result<u32, Refu
 // The certified bound of a file, or its first refusal. An accepted file takes every frame inside its input ranges, and the
 // exact output is within the bound of the code, whatever the true inputs were within their errors.
 pub fn judge<K: KindSet>(kinds: &K, file: &[u8]) -> Result<u32, Refusal>
-    ensures answer { result ≡ verdict_of (meaning kinds.now) file.now }
-    ensures certificate { Certificate (meaning kinds.now) file.now result }
+    ensures answer { result ≡ verdict_of (K.meaning kinds.now) file.now }
+    ensures certificate { Certificate (K.meaning kinds.now) file.now result }
 {
     judge_file(kinds, file)
 }

@@ -38,7 +38,7 @@ pub(crate) fn judge_stage<K: KindSet>(
     requires accumulator { (16 ≤ accumulator) × (accumulator ≤ 56) }
     requires few { k < 16 }
     requires stands { Stands before (take before.count table.old) }
-    ensures value { stood result table.new ≡ wires_past (meaning kinds.now) accumulator (k + 1) (in_table before table.old) (stage_at records.now k) }
+    ensures value { stood result table.new ≡ wires_past (K.meaning kinds.now) accumulator (k + 1) (in_table before table.old) (stage_at records.now k) }
     ensures stands { StandsIn result table.new }
 {
     let Some(split) = stage_at(records, k) else {
@@ -73,7 +73,7 @@ pub(crate) fn judge_stages<K: KindSet>(
     requires accumulator { (16 ≤ accumulator) × (accumulator ≤ 56) }
     requires few { stages ≤ 16 }
     requires stands { Stands inputs (take inputs.count table.old) }
-    ensures value { stood result table.new ≡ wires_from (meaning kinds.now) accumulator records.now 0 stages (in_table inputs table.old) }
+    ensures value { stood result table.new ≡ wires_from (K.meaning kinds.now) accumulator records.now 0 stages (in_table inputs table.old) }
     ensures stands { StandsIn result table.new }
 {
     let mut at = inputs;

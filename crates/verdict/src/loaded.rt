@@ -11,7 +11,7 @@ use stages::kind_set::KindSet;
 
 // The header's fields of a file that is accepted.
 pub fn fields_of<K: KindSet>(kinds: &K, file: &[u8]) -> Option<Fields>
-    ensures { result ≡ fields_in (loaded_in (meaning kinds.now) file.now) }
+    ensures { result ≡ fields_in (loaded_in (K.meaning kinds.now) file.now) }
 {
     let mut table = [NO_ROW; 64];
     let Ok(head) = read_head(file, &mut table) else {
@@ -25,7 +25,7 @@ pub fn fields_of<K: KindSet>(kinds: &K, file: &[u8]) -> Option<Fields>
 
 // The refusal of a call on a file, or that there is none where the file is not accepted.
 pub(crate) fn refused_or_none<K: KindSet>(kinds: &K, file: &[u8], refusal: Refusal) -> Refusal
-    ensures { result ≡ unless_none (loaded_in (meaning kinds.now) file.now) refusal }
+    ensures { result ≡ unless_none (loaded_in (K.meaning kinds.now) file.now) refusal }
 {
     match judge_file(kinds, file) {
         Ok(_) => refusal,

@@ -45,7 +45,7 @@ pub(crate) fn run_stage<K: KindSet>(
     requires accumulator { (16 ≤ accumulator) × (accumulator ≤ 56) }
     requires few { k < 16 }
     requires stands { Stands before (take before.count table.old) }
-    ensures value { framed result table.new codes.new ≡ frame_past (meaning kinds.now) accumulator (k + 1) (in_tables before table.old codes.old) (stage_at records.now k) }
+    ensures value { framed result table.new codes.new ≡ frame_past (K.meaning kinds.now) accumulator (k + 1) (in_tables before table.old codes.old) (stage_at records.now k) }
     ensures stands { StandsIn result table.new }
 {
     let after = match judge_stage(kinds, accumulator, records, k, before, table) {
@@ -85,7 +85,7 @@ pub(crate) fn run_stages<K: KindSet>(
     requires accumulator { (16 ≤ accumulator) × (accumulator ≤ 56) }
     requires few { stages ≤ 16 }
     requires stands { Stands inputs (take inputs.count table.old) }
-    ensures value { framed result table.new codes.new ≡ frame_from (meaning kinds.now) accumulator records.now 0 stages (in_tables inputs table.old codes.old) }
+    ensures value { framed result table.new codes.new ≡ frame_from (K.meaning kinds.now) accumulator records.now 0 stages (in_tables inputs table.old codes.old) }
     ensures stands { StandsIn result table.new }
 {
     let mut at = inputs;

@@ -46,7 +46,7 @@ fn lesser(a: u8, b: u8) -> u8
 
 // Stage 0 is the inputs, and a number past the last stage is the last.
 pub fn wires_after<K: KindSet>(kinds: &K, file: &[u8], stage: u8) -> Result<Wires, Refusal>
-    ensures value { map_ok wires_in result ≡ wires_up_to (meaning kinds.now) file.now stage }
+    ensures value { map_ok wires_in result ≡ wires_up_to (K.meaning kinds.now) file.now stage }
     ensures stands { IfOk result (λ w. Stands w.shape (wires_in w).wires) }
 {
     let mut rows = [NO_ROW; 64];

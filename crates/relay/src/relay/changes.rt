@@ -30,8 +30,8 @@ impl<K: KindSet> Relay<K> {
 
     // Judges the whole file; a taken file is kept, and the counter starts again. Answers the certified bound.
     pub fn load(&mut self, file: &[u8]) -> Result<u32, Refusal>
-        ensures answer { result ≡ verdict_of (meaning self.old.kinds) file.now }
-        ensures state { held self.new ≡ load_after file.now (verdict_of (meaning self.old.kinds) file.now) (held self.old) }
+        ensures answer { result ≡ verdict_of (K.meaning self.old.kinds) file.now }
+        ensures state { held self.new ≡ load_after file.now (verdict_of (K.meaning self.old.kinds) file.now) (held self.old) }
         ensures set { self.new.kinds ≡ self.old.kinds }
     {
         match judge(&self.kinds, file) {
@@ -47,8 +47,8 @@ impl<K: KindSet> Relay<K> {
 
     // Works out the output code of a frame and counts.
     pub fn frame(&mut self, codes: &[i32]) -> Result<Status, Refusal>
-        ensures answer { result ≡ frame_answer (meaning self.old.kinds) (held self.old) codes.now }
-        ensures state { held self.new ≡ with_status (frame_answer (meaning self.old.kinds) (held self.old) codes.now) (held self.old) }
+        ensures answer { result ≡ frame_answer (K.meaning self.old.kinds) (held self.old) codes.now }
+        ensures state { held self.new ≡ with_status (frame_answer (K.meaning self.old.kinds) (held self.old) codes.now) (held self.old) }
         ensures set { self.new.kinds ≡ self.old.kinds }
     {
         let kept = self.kept;

@@ -32,15 +32,15 @@ impl<K: KindSet> Relay<K> {
     // that led to this one.
     pub fn state(&self) -> Result<Report, Refusal>
         ensures answer { result ≡ state_answer (held self.now) }
-        ensures claims { (events : List Event) → Way (meaning self.now.kinds) events (held self.now) → Claims (meaning self.now.kinds) events (held self.now) }
+        ensures claims { (events : List Event) → Way (K.meaning self.now.kinds) events (held self.now) → Claims (K.meaning self.now.kinds) events (held self.now) }
     {
         self.report()
     }
 
     // The wires after a stage, 0 meaning the inputs, with the bits that they need, in front of the buffer, and how many.
     pub fn certificate(&self, stage: u32, out: &mut [CertificateRow]) -> Result<usize, Refusal>
-        ensures answer { result ≡ map_ok length (certificate_rows (meaning self.now.kinds) (held self.now) stage (length out.old)) }
-        ensures buffer { out.new ≡ over (certificate_rows (meaning self.now.kinds) (held self.now) stage (length out.old)) out.old }
+        ensures answer { result ≡ map_ok length (certificate_rows (K.meaning self.now.kinds) (held self.now) stage (length out.old)) }
+        ensures buffer { out.new ≡ over (certificate_rows (K.meaning self.now.kinds) (held self.now) stage (length out.old)) out.old }
     {
         let kept = self.kept;
         let Some(file) = kept.file() else {
@@ -51,8 +51,8 @@ impl<K: KindSet> Relay<K> {
 
     // A stage, counted from 1, run on the caller's codes, in front of the buffer, and how many.
     pub fn bench(&self, stage: u32, codes: &[i32], out: &mut [i32]) -> Result<usize, Refusal>
-        ensures answer { result ≡ map_ok length (bench_codes (meaning self.now.kinds) (held self.now) stage codes.now (length out.old)) }
-        ensures buffer { out.new ≡ over (bench_codes (meaning self.now.kinds) (held self.now) stage codes.now (length out.old)) out.old }
+        ensures answer { result ≡ map_ok length (bench_codes (K.meaning self.now.kinds) (held self.now) stage codes.now (length out.old)) }
+        ensures buffer { out.new ≡ over (bench_codes (K.meaning self.now.kinds) (held self.now) stage codes.now (length out.old)) out.old }
     {
         let kept = self.kept;
         let Some(file) = kept.file() else {

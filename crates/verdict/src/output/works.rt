@@ -98,7 +98,7 @@ fn run_frame<K: KindSet>(
     requires few { fields.stages ≤ 16 }
     requires stands { Stands (shape_in fields) (take fields.inputs table.old) }
     requires many { length codes.now ≡ fields.inputs }
-    ensures { result ≡ frame_pass (meaning kinds.now) fields records.now (frame (in_table (shape_in fields) table.old) codes.now) }
+    ensures { result ≡ frame_pass (K.meaning kinds.now) fields records.now (frame (in_table (shape_in fields) table.old) codes.now) }
 {
     let mut run = in_front(codes);
     let inputs = input_shape(fields);
@@ -118,7 +118,7 @@ fn run_frame<K: KindSet>(
 
 // The output of a frame, or the first refusal; with a file that is not accepted, that there is no file.
 pub fn output_of<K: KindSet>(kinds: &K, file: &[u8], codes: &[i32]) -> Result<Output, Refusal>
-    ensures { result ≡ output_in (meaning kinds.now) (loaded_in (meaning kinds.now) file.now) codes.now }
+    ensures { result ≡ output_in (K.meaning kinds.now) (loaded_in (K.meaning kinds.now) file.now) codes.now }
 {
     let mut table = [NO_ROW; 64];
     let Ok(head) = read_head(file, &mut table) else {
