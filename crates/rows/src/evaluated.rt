@@ -13,7 +13,7 @@ pub(crate) trait Evaluated {
 
     type Refusal;
 
-    ghost rowOf: { Scales → ℕ → List ℤ → ℤ → List Self.Value → Outcome Self.Value Self.Refusal };
+    ghost row_of: { Scales → ℕ → List ℤ → ℤ → List Self.Value → Outcome Self.Value Self.Refusal };
 
     fn row(
         format: RowFormat,
@@ -24,7 +24,7 @@ pub(crate) trait Evaluated {
     ) -> Result<Self::Value, Self::Refusal>
         requires lengths { length weights.now ≡ length inputs.now }
         requires few { length inputs.now ≤ 64 }
-        ensures { result ≡ rowOf format.scales output weights.now bias inputs.now };
+        ensures { result ≡ row_of format.scales output weights.now bias inputs.now };
 }
 
 pub(crate) struct Codes;
@@ -36,7 +36,7 @@ impl Evaluated for Codes {
 
     type Refusal = RunRefusal;
 
-    ghost rowOf = { row_code };
+    ghost row_of = { row_code };
 
     fn row(
         format: RowFormat,
@@ -54,7 +54,7 @@ impl Evaluated for Wires {
 
     type Refusal = KindRefusal;
 
-    ghost rowOf = { row_wire };
+    ghost row_of = { row_wire };
 
     fn row(
         format: RowFormat,

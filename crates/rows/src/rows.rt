@@ -47,8 +47,8 @@ where
     E::Value: Copy,
     requires few { (layout.outputs ≤ 64) × (layout.length ≤ 64) }
     requires windows { (o : ℕ) → o < layout.outputs → o * layout.slide + layout.length ≤ length inputs.now }
-    ensures answer { result ≡ map_ok (λ _. tt) (outputs_from (row_at (rowOf format.scales) layout bytes.now inputs.now) 0 layout.outputs) }
-    ensures table { out.new ≡ over (outputs_from (row_at (rowOf format.scales) layout bytes.now inputs.now) 0 layout.outputs) out.old }
+    ensures answer { result ≡ map_ok (λ _. tt) (outputs_from (row_at (E.row_of format.scales) layout bytes.now inputs.now) 0 layout.outputs) }
+    ensures table { out.new ≡ over (outputs_from (row_at (E.row_of format.scales) layout bytes.now inputs.now) 0 layout.outputs) out.old }
 {
     let mut made = *out;
     for o in 0..layout.outputs {
@@ -68,7 +68,7 @@ fn one_row<E: Evaluated>(
 ) -> Result<E::Value, E::Refusal>
     requires few { layout.length ≤ 64 }
     requires window { output * layout.slide + layout.length ≤ length inputs.now }
-    ensures { result ≡ row_at (rowOf format.scales) layout bytes.now inputs.now output }
+    ensures { result ≡ row_at (E.row_of format.scales) layout bytes.now inputs.now output }
 {
     let mut table = [0i32; 64];
     write_weights(layout, bytes, output, &mut table);

@@ -35,8 +35,8 @@ pub(crate) fn judge_plan<P: Plan>(
     out: &mut [WireRow; 64],
 ) -> Result<Shape, KindRefusal>
     requires { Given (setting bytes.now accumulator before) rows.now }
-    ensures answer { result ≡ map_ok (λ _. (rows_kind plan).after (setting bytes.now accumulator before)) ((rows_kind plan).wires (setting bytes.now accumulator before) rows.now) }
-    ensures table { out.new ≡ over ((rows_kind plan).wires (setting bytes.now accumulator before) rows.now) out.old }
+    ensures answer { result ≡ map_ok (λ _. (rows_kind P.plan).after (setting bytes.now accumulator before)) ((rows_kind P.plan).wires (setting bytes.now accumulator before) rows.now) }
+    ensures table { out.new ≡ over ((rows_kind P.plan).wires (setting bytes.now accumulator before) rows.now) out.old }
 {
     let Some(layout) = P::layout(u8_at(bytes, 1), before.count) else {
         return Err(KindRefusal::Size);
@@ -66,10 +66,10 @@ pub(crate) fn run_plan<P: Plan>(
     codes: &[i32],
     out: &mut [i32; 64],
 ) -> Result<usize, RunRefusal>
-    requires passes { Passes (rows_kind plan) (setting bytes.now accumulator before) }
+    requires passes { Passes (rows_kind P.plan) (setting bytes.now accumulator before) }
     requires many { length codes.now ≡ before.count }
-    ensures answer { result ≡ map_ok length ((rows_kind plan).code (setting bytes.now accumulator before) codes.now) }
-    ensures table { out.new ≡ over ((rows_kind plan).code (setting bytes.now accumulator before) codes.now) out.old }
+    ensures answer { result ≡ map_ok length ((rows_kind P.plan).code (setting bytes.now accumulator before) codes.now) }
+    ensures table { out.new ≡ over ((rows_kind P.plan).code (setting bytes.now accumulator before) codes.now) out.old }
 {
     let Some(layout) = P::layout(u8_at(bytes, 1), before.count) else {
         return unreachable();

@@ -15,7 +15,7 @@ where
     Q::Input: Copy,
     requires bits { bits ≤ 56 }
     requires lengths { length weights.now ≡ length inputs.now }
-    ensures { result ≡ walked (fitting bits) plus times start weights.now inputs.now }
+    ensures { result ≡ walked (Q.fitting bits) Q.plus Q.times start weights.now inputs.now }
 {
     let mut sum = start;
     for (i, weight) in weights.iter().enumerate() {

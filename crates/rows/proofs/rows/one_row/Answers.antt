@@ -20,5 +20,5 @@ returns g c =
     let start : c.from.result * c.from-2.result ≡ o * l.slide = ap₂ ◌*◌ c.from.ensures c.from-2.ensures in
     let far : c.from.result * c.from-2.result + c.from-length.result - c.from.result * c.from-2.result ≡ n = omega (arith, start, length-is) in
     let inputs = ap₂ (λ k i. take k (drop i c.args.inputs.now)) far start in
-    let rule = g.E.Evaluated.rowOf c.args.format.scales o in
+    let rule = g.E.Evaluated.row_of c.args.format.scales o in
     (simp to_z-of_z at c.row.ensures) ∙ ap₂ (λ ws b. rule ws b (take (c.from.result * c.from-2.result + c.from-length.result - c.from.result * c.from-2.result) (drop (c.from.result * c.from-2.result) c.args.inputs.now))) weights c.bias_at.ensures ∙ ap (rule (weights_at l bytes o) (bias_at l bytes o)) inputs

@@ -11,7 +11,7 @@ pub all_rows-requires : goal.all_rows-requires
 all_rows-requires g c =
     let given = c.requires.passes.1.0.stands in
     let w = g.met.P.Plan.good c.u8_at.result c.args.before.count c.in-Some.layout given.sized.least given.sized.most (sym c.in-Some.ensures) in
-    (lit< tt, (w.most, (w.short, λ o h. omega (arith, w.inside o h, c.requires.many))))
+    (lit< tt, ((w.most, w.short), λ o h. omega (arith, w.inside o h, c.requires.many)))
 
 pub returns-in-Ok : goal.returns-in-Ok
 returns-in-Ok g c =
