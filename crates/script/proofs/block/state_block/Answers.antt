@@ -1,5 +1,5 @@
 use Rattle.std.proofs.Common.{◌≡◌, sym}
 use Rattle.script.proofs.block.state_block.Goals as goal
 
-pub returns-in_ok-report : goal.returns-in_ok-report
-returns-in_ok-report c = simp (c.in-Ok.is, sym c.in_ok-report.ensures) c.format.ensures.ok
+pub returns-in_ok-report-in-Ok : goal.returns-in_ok-report-in-Ok
+returns-in_ok-report-in-Ok c = simp (c.in-Ok.is, sym c.in_ok-report-in-Ok.ensures) c.format.ensures.ok

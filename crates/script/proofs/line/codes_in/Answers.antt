@@ -25,7 +25,7 @@ loop-left-preserved c =
     let h : 1 ≤ length left = search rules in
     let np = next-part 32 len left h c.part_len-len.ensures.parts in
     let fits : SFits w32 c.in-Some.code = search rules in
-    let pushed : vec_items c.push.new.self ≡ codes ++ c.in-Some.code ∷ [] = simp to_z-of_z at c.in_ok-push.ensures.items in
+    let pushed : vec_items c.push.new.self ≡ codes ++ c.in-Some.code ∷ [] = simp to_z-of_z at c.in_ok-push-in-Some.ensures.items in
     ap (λ t. prepended t (codes_in (parts_after 32 (take (length (behind left) - len) (drop len (behind left)))))) pushed
     ∙ ap (λ u. prepended (codes ++ c.in-Some.code ∷ []) (codes_in (parts_after 32 u))) (behind-drop len left)
     ∙ sym (prepended-more codes c.in-Some.code R)
