@@ -1,9 +1,9 @@
 -- The table of commissioning cases. Assumes nothing.
 use Rattle.std.specs.Prelude.{ℕ, true, false, List, [], ◌∷◌, ℤ, pos, neg_ℤ, codes}
 use Rattle.cases.specs.Hex.{hex}
-use Rattle.cases.specs.Entry.{Entry, judged, answers, certain, format, kept}
+use Rattle.cases.specs.Entry.{Entry, judged, framed, answers, certain, format, kept}
 use Rattle.settings.specs.declared.refusal.Refusal.TheVariants.{CodeRange}
-use Rattle.calls.specs.Call.{load, frame, Answer, refused, loaded, framed}
+use Rattle.calls.specs.Call.{load, frame, Answer, refused, loaded, framed as answered}
 
 -- One input of word 12 with 8 fraction bits, -256 to 255; one full stage of one output with weight 0.5; allowed error 65,536.
 abbrev pub reference : List ℕ
@@ -42,18 +42,24 @@ kiln = hex (codes "010045040C08280200400000008000000003000100000018FFFFFC0000000
 
 -- a frame's answer with a code and a count: not picked, picked, and picked with the trip set
 abbrev pub below : ℤ → ℕ → Answer
-below y n = framed (record { code = y; picked = false; count = n; trip = false })
+below y n = answered (record { code = y; picked = false; count = n; trip = false })
 
 abbrev pub picked : ℤ → ℕ → Answer
-picked y n = framed (record { code = y; picked = true; count = n; trip = false })
+picked y n = answered (record { code = y; picked = true; count = n; trip = false })
 
 abbrev pub tripped : ℤ → ℕ → Answer
-tripped y n = framed (record { code = y; picked = true; count = n; trip = true })
+tripped y n = answered (record { code = y; picked = true; count = n; trip = true })
 
 abbrev pub commissioning : List Entry
 commissioning =
     judged reference (codes "accepted 61440\n")
     ∷ judged strict (codes "refused 32 1 0\n")
+    ∷ framed reference (pos 3 ∷ []) (pos 1 ∷ [])
+    ∷ framed reference (neg_ℤ (pos 3) ∷ []) (neg_ℤ (pos 2) ∷ [])
+    ∷ framed reference (pos 127 ∷ []) (pos 63 ∷ [])
+    ∷ framed reference (pos 128 ∷ []) (pos 64 ∷ [])
+    ∷ framed reference (pos 129 ∷ []) (pos 64 ∷ [])
+    ∷ framed reference (pos 130 ∷ []) (pos 65 ∷ [])
     ∷ answers (load reference ∷ frame (pos 3 ∷ []) ∷ frame (neg_ℤ (pos 3) ∷ []) ∷ [])
     (loaded 61440 ∷ below (pos 1) 0 ∷ below (neg_ℤ (pos 2)) 0 ∷ [])
     ∷ answers (load reference ∷ frame (pos 127 ∷ []) ∷ frame (pos 128 ∷ []) ∷ frame (pos 129 ∷ []) ∷ frame (pos 130 ∷ []) ∷ frame (pos 256 ∷ []) ∷ [])

@@ -14,6 +14,10 @@ pub map-ok : {A B E : Type 0} (f : A → B) (r : Result A E) (y : B) → ◌≡�
 map-ok f (Ok x) y e = (x, refl, cc)
 map-ok f (Err d) y e = let z : ◌≡◌ {A = ℕ} 0 1 = cc in absurd (omega arith)
 
+pub map-err : {A B E : Type 0} (f : A → B) (r : Result A E) (d : E) → ◌≡◌ {A = Result B E} (Err d) (map_ok f r) → r ≡ Err d
+map-err f (Ok x) d e = let z : ◌≡◌ {A = ℕ} 0 1 = cc in absurd (omega arith)
+map-err f (Err c) d e = let s : c ≡ d = cc in ap Err s
+
 -- the wires that a kind gave stand in front of the table
 pub judged-in : (k : Kind) (s : Setting) (xs before out : List WireRow) (after : Shape) → Lawful k → Given s xs
     → ◌≡◌ {A = Result Shape KindRefusal} (Ok after) (map_ok (λ _. k.after s) (k.wires s xs)) → out ≡ over (k.wires s xs) before

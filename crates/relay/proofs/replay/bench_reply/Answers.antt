@@ -9,6 +9,6 @@ pub returns : goal.returns
 returns g c =
     let m = g.K.KindSet.meaning c.args.relay.now.kinds in
     let s = held c.args.relay.now in
-    let filled = c.as_mut_slice.ensures.value ∙ c.in_ok-buffer.ensures.items-if-clones-equal (λ y e. e) ∙ ap (λ n. replicate n (pos 0)) c.from.ensures in
+    let filled = c.as_mut_slice.ensures.value ∙ c.in_ok-buffer.ensures.items_if_clones_equal (λ y e. e) ∙ ap (λ n. replicate n (pos 0)) c.from.ensures in
     buffered-told c.in_ok-buffer.buffer (bench_codes m s c.args.stage c.args.codes.now) codes c.bench-answer.result c.bench-answer.new.out c.as_mut_slice.result.now
     (replicate c.args.places (pos 0)) (omega arith) filled c.bench-answer.ensures.answer c.bench-answer.ensures.buffer
