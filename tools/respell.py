@@ -11,6 +11,8 @@ import sys
 
 TOKEN = re.compile(r"[A-Za-z_][\w'₀-₉-]*")
 DECLARED = re.compile(r"^(\s*)(?:(?:abbrev|unfoldable|pub)\s+)*([A-Za-z_][\w'₀-₉-]*)\s*(?=[:({])")
+# A ghost member or an import under a name of the file's own, in a source.
+GHOST = re.compile(r"^\s*ghost ([a-z][a-z0-9]*[A-Z]\w*)|\bas ([a-z][a-z0-9]*[A-Z]\w*)")
 FIELD = re.compile(r"^\s+(?:pub\s+)?([a-z][\w'-]*)\s*:\s")
 # Goals, invariants and measures are named by Rattle.
 MADE = re.compile(r"^(returns|loop|invariant|decreases|overflow|bounds|nonzero)-|-requires$")
@@ -45,6 +47,12 @@ def declared():
                 field = FIELD.match(line)
                 if inside and "/specs/" in path and field and "-" in field.group(1):
                     names[field.group(1)] = field.group(1).replace("-", "_")
+    for path in sources("src/**/*.rt"):
+        with open(path, encoding="utf-8") as file:
+            for line in file:
+                for ghost in GHOST.findall(line) if "ghost" in line else []:
+                    name = ghost[0] or ghost[1]
+                    names[name] = snake(name)
     return names
 
 

@@ -1,5 +1,5 @@
 -- The count against the weight of stretches, for any list of frames of which some are picked.
-use Rattle.std.proofs.Common.{◌≡◌, ℕ, suc, ◌+◌, ◌-◌, ◌*◌, ◌<◌, ◌≤◌, Bool, true, false, cond, not, ◌||◌, eqb, ◌⊎◌, List, [], ◌∷◌, ◌++◌, refl, ap, subst, ⊎_elim, arith}
+use Rattle.std.proofs.Common.{◌≡◌, ℕ, suc, ◌+◌, ◌*◌, ◌<◌, ◌≤◌, Bool, true, false, cond, not, ◌||◌, eqb, List, [], ◌∷◌, ◌++◌, refl, ap, subst, ⊎_elim, arith}
 use mathlib.Core.List.{cons≢nil}
 use Rattle.std.proofs.lemmas.Bool.{eqb-true, eqb-false, or_parts, or_cases, or_left, cases_Bool, cases_lt}
 use Rattle.settings.specs.declared.fields.Fields.{Fields}

@@ -1,5 +1,5 @@
 -- Division that rounds toward minus infinity.
-use Rattle.std.proofs.Common.{◌≡◌, ℕ, suc, ◌+◌, ◌-◌, ◌*◌, ◌/◌, ◌%◌, ◌^◌, ◌<◌, ◌≤◌, min, ◌⊎◌, ℤ, pos, negsuc, ◌+ℤ◌, ◌*ℤ◌, sym, ap, ◌∙◌, inl, inr, ⊎_elim, mod-lt, div-add-mod', arith, pow_mono}
+use Rattle.std.proofs.Common.{◌≡◌, ℕ, ◌*◌, ◌/◌, ◌^◌, ◌<◌, ◌≤◌, min, ◌⊎◌, ℤ, pos, negsuc, sym, ap, ◌∙◌, inl, inr, ⊎_elim, mod-lt, div-add-mod', arith, pow_mono}
 use native.Mathlib.Nat.{div-eq_of_lt}
 use Rattle.std.proofs.lemmas.Bool.{cases_lt}
 use lib.Signed.{mag, shr_z}

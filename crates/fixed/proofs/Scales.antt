@@ -1,5 +1,5 @@
 -- Codes in grains: nothing is lost on the way to 64 bits.
-use Rattle.std.proofs.Common.{◌≡◌, ℕ, suc, ◌+◌, ◌-◌, ◌*◌, ◌%◌, ◌^◌, ◌<◌, ◌≤◌, ℤ, pos, negsuc, ◌*ℤ◌, ap, ◌∙◌, mul-le-mul, arith, pow_mono, w64, SFits, to_z}
+use Rattle.std.proofs.Common.{◌≡◌, ℕ, suc, ◌*◌, ◌%◌, ◌^◌, ◌<◌, ◌≤◌, ℤ, pos, negsuc, ◌*ℤ◌, ap, ◌∙◌, mul-le-mul, arith, pow_mono, w64, SFits, to_z}
 use lib.Signed.{mag}
 use borrow.Author.Differences.{mag_is, product_is}
 use Rattle.std.proofs.lemmas.Nat.{one_shl, pow_below}

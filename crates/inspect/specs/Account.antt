@@ -6,7 +6,7 @@ use Rattle.fixed.specs.Word.{bits_needed}
 use Rattle.fixed.specs.declared.row.WireRow.{WireRow}
 use Rattle.settings.specs.declared.fields.Fields.{Fields}
 use Rattle.settings.specs.declared.refusal.Refusal.{Refusal}
-use Rattle.settings.specs.Head.{Head, head_of}
+use Rattle.settings.specs.Head.{Head}
 use Rattle.settings.specs.Refusals.{refusal_text}
 use Rattle.inspect.specs.Decimals.{grains_text}
 

@@ -1,5 +1,5 @@
 -- Grains as decimals with eight places, rounded to the nearest. Assumes nothing.
-use Rattle.std.specs.Prelude.{ℕ, ◌+◌, ◌*◌, ◌/◌, ◌%◌, ◌^◌, cond, List, ◌++◌, ℤ, pos, codes, decimal, int_lt, unsigned_abs}
+use Rattle.std.specs.Prelude.{ℕ, ◌+◌, ◌*◌, ◌/◌, ◌%◌, cond, List, ◌++◌, ℤ, pos, codes, decimal, int_lt, unsigned_abs}
 
 -- m grains in units of 10^-8: a grain is 2^-24
 abbrev pub in_places : ℕ → ℕ

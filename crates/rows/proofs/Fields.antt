@@ -1,17 +1,17 @@
 -- The laws of full and taps in the words of their field.
-use Rattle.std.proofs.Common.{◌≡◌, ℕ, zero, suc, ◌+◌, ◌-◌, ◌*◌, ◌^◌, ◌<◌, ◌≤◌, Bool, true, false, cond, ◌&&◌, eqb, leb, List, [], ◌∷◌, map, length, get_or, take, drop, ℤ, pos, ◌+ℤ◌, ◌*ℤ◌, Some, None, Ok, Err, Option, Result, sym, refl, ap, ◌∙◌, subst, ap₂, add-zero, one-mul, zero-add, zero-mul, mul-one, arith}
+use Rattle.std.proofs.Common.{◌≡◌, ℕ, zero, suc, ◌+◌, ◌-◌, ◌*◌, ◌^◌, ◌<◌, Bool, true, false, cond, ◌&&◌, eqb, leb, List, [], ◌∷◌, map, length, get_or, take, drop, ℤ, pos, ◌+ℤ◌, ◌*ℤ◌, Some, None, Ok, Err, Result, sym, refl, ap, ◌∙◌, subst, ap₂, arith}
 use Rattle.std.specs.List.{range_with_len}
 use Rattle.std.proofs.lemmas.List.{take_all, drop_more}
 use Rattle.fixed.specs.Steps.{and_then}
-use Rattle.stages.specs.Kind.{Setting, Exact, exactly}
+use Rattle.stages.specs.Kind.{exactly}
 use Rattle.stages.specs.declared.shape.KindRefusal.TheVariants.{Format, Length}
 use Rattle.fixed.specs.declared.row.WireRow.{WireRow}
 use Rattle.rows.specs.declared.layout.Layout.{Layout}
 use Rattle.rows.specs.declared.scales.Scales.{Scales}
 use Rattle.rows.specs.Row.{dot, row_exact, row_wire, row_code}
-use Rattle.rows.specs.Layout.{number_at, weights_at, bias_at, window, row_at, outputs_from, wires_by, codes_by, exact_by}
+use Rattle.rows.specs.Layout.{number_at, row_at, outputs_from, wires_by, codes_by, exact_by}
 use Rattle.rows.specs.Scales.{scales_fit}
-use Rattle.rows.specs.Plan.{full_plan, taps_plan, scales_in, wires_in, codes_in, after_in, exact_in}
+use Rattle.rows.specs.Plan.{scales_in, wires_in, codes_in, after_in, exact_in}
 use Rattle.rows.specs.Laws.{sum_from, FullIsProduct, TapsIsWindow, TapsIsFull}
 
 -- the layout that a plan gives

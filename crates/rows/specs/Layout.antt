@@ -1,5 +1,5 @@
 -- The rows of a stage. Assumes nothing.
-use Rattle.std.specs.Prelude.{ℕ, zero, suc, ◌+◌, ◌*◌, List, [], ◌∷◌, map, take, drop, ℤ, Ok, Err, Result}
+use Rattle.std.specs.Prelude.{ℕ, zero, suc, ◌+◌, ◌*◌, List, [], ◌∷◌, map, take, drop, ℤ, Ok, Result}
 use Rattle.std.specs.List.{range_with_len}
 use Rattle.fixed.specs.Bytes.{i32_at}
 use Rattle.fixed.specs.declared.row.WireRow.{WireRow}

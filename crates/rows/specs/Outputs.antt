@@ -1,7 +1,7 @@
 -- Outputs that are worked out one after another into a table.
 use Rattle.std.specs.Prelude.{◌≡◌, ℕ, zero, suc, ◌+◌, ◌-◌, ◌<◌, ◌≤◌, List, [], ◌∷◌, ◌++◌, length, take, drop, Ok, Err, Result, slice_set, refl}
-use Rattle.std.proofs.Common.{ap, ap₂, sym, ◌∙◌, subst, append_assoc, append-nil, arith, add-zero, length-take, length-set}
-use Rattle.std.proofs.lemmas.List.{take_more_set, take_at}
+use Rattle.std.proofs.Common.{ap, sym, ◌∙◌, append_assoc, append-nil, arith, length-take, length-set}
+use Rattle.std.proofs.lemmas.List.{take_more_set}
 use Rattle.fixed.proofs.Chains.{then_ok, then-then}
 use Rattle.fixed.proofs.Tables.{fill_more}
 use Rattle.stages.specs.Kind.{map_ok, over}

@@ -1,6 +1,6 @@
 -- What rounding drops.
-use Rattle.std.specs.Prelude.{◌≡◌, ℕ, suc, ◌+◌, ◌-◌, ◌*◌, ◌/◌, ◌%◌, ◌^◌, ◌<◌, ◌≤◌, true, false, List, length, drop, ℤ, pos, negsuc, int_lt, slice_index_or}
-use Rattle.std.proofs.Common.{ap, ap₂, sym, ◌∙◌, arith, div-add-mod', mod-lt, pow_pos, pow_mono}
+use Rattle.std.specs.Prelude.{◌≡◌, ℕ, ◌+◌, ◌-◌, ◌*◌, ◌%◌, ◌^◌, ◌<◌, ◌≤◌, true, false, List, length, drop, ℤ, pos, negsuc, int_lt, slice_index_or}
+use Rattle.std.proofs.Common.{ap, ap₂, sym, arith, div-add-mod', mod-lt, pow_pos, pow_mono}
 use Rattle.std.specs.Int.Signed.{mag}
 use Rattle.std.proofs.lemmas.Int.{ints}
 use borrow.Author.Tests.{clash}

@@ -1,10 +1,10 @@
 -- The wire of a row, by the checks that it passes.
-use Rattle.std.specs.Prelude.{◌≡◌, ℕ, Bool, true, false, cond, List, ℤ, Some, None, Ok, Err, Option, Result, nat_le, refl}
-use Rattle.std.proofs.Common.{ap, sym, ◌∙◌, arith}
+use Rattle.std.specs.Prelude.{◌≡◌, ℕ, Bool, true, false, cond, List, ℤ, Some, None, Ok, Err, Option, Result, nat_le}
+use Rattle.std.proofs.Common.{ap, ◌∙◌, arith}
 use Rattle.fixed.specs.Wire.{most_error}
 use Rattle.fixed.specs.declared.row.WireRow.{WireRow}
 use Rattle.stages.specs.declared.shape.KindRefusal.{KindRefusal}
-use Rattle.stages.specs.declared.shape.KindRefusal.TheVariants.{WeightCode, RangeSum, RangeOutput, WireError}
+use Rattle.stages.specs.declared.shape.KindRefusal.TheVariants.{WeightCode, RangeOutput, WireError}
 use Rattle.rows.specs.declared.range.SumRange.{SumRange}
 use Rattle.rows.specs.declared.scales.Scales.{Scales}
 use Rattle.rows.specs.Scales.{dropped}

@@ -1,6 +1,6 @@
 -- The limits of the formats that meet in a row. Assumes nothing.
 use Rattle.std.specs.Prelude.{ℕ, ◌+◌, ◌-◌, ◌≤◌, Bool, ◌&&◌, nat_le}
-use Rattle.fixed.specs.Format.{IsFormat, is_format}
+use Rattle.fixed.specs.Format.{is_format}
 use Rattle.rows.specs.declared.scales.Scales.{Scales}
 
 -- weights have limits of their own, and need not be in a format

@@ -1,24 +1,21 @@
 -- The containment law of a stage of rows.
-use Rattle.std.specs.Prelude.{◌≡◌, ℕ, zero, suc, ◌+◌, ◌*◌, ◌<◌, ◌≤◌, Bool, true, false, cond, ◌&&◌, List, [], ◌∷◌, map, length, ℤ, Some, None, Ok, Err, Option, Result, ◌==◌, refl}
-use Rattle.std.proofs.Common.{ap, sym, ◌∙◌, subst, arith}
+use Rattle.std.specs.Prelude.{◌≡◌, ℕ, zero, suc, ◌+◌, ◌*◌, ◌≤◌, Bool, true, false, cond, List, [], ◌∷◌, map, length, ℤ, Some, None, Ok, Err, Option, Result, ◌==◌, refl}
+use Rattle.std.proofs.Common.{ap, ◌∙◌, subst, arith}
 use Rattle.std.specs.List.{range_with_len}
 use Rattle.std.proofs.lemmas.List.FromFn.{length-map-range_with_len}
 use Rattle.std.proofs.lemmas.Bool.Decides.{nat_tests}
 use Rattle.fixed.specs.Format.{IsFormat}
-use Rattle.fixed.specs.Wire.{Proper}
 use Rattle.fixed.specs.declared.row.WireRow.{WireRow}
-use Rattle.stages.specs.declared.shape.Shape.{Shape}
-use Rattle.stages.specs.declared.shape.KindRefusal.{KindRefusal}
 use Rattle.stages.specs.declared.shape.KindRefusal.TheVariants.{Format, Length}
 use Rattle.stages.specs.Kind.{Setting, Exact, exactly}
 use Rattle.fixed.specs.Steps.{and_then}
-use Rattle.stages.specs.Containment.{AllProper, InWire, Inside, Held, Sized, Stands, Given, Leads, Lawful}
+use Rattle.stages.specs.Containment.{AllProper, InWire, Inside, Held, Stands, Given, Lawful}
 use Rattle.fixed.proofs.Chains.{then_ok}
 use Rattle.rows.specs.declared.layout.Layout.{Layout}
 use Rattle.rows.specs.declared.scales.Scales.{Scales}
 use Rattle.rows.specs.Scales.{scales_fit}
 use Rattle.rows.specs.Row.{row_code, row_wire, row_exact}
-use Rattle.rows.specs.Layout.{number_at, weights_at, bias_at, window, outputs_from, row_at, wires_by, codes_by, exact_by}
+use Rattle.rows.specs.Layout.{weights_at, bias_at, window, outputs_from, row_at, wires_by}
 use Rattle.rows.specs.Plan.{scales_in, plan_in, wires_in, codes_in, after_in, exact_in, rows_kind, Windows, GoodPlan}
 use Rattle.rows.specs.Outputs.{outputs-many}
 use Rattle.rows.specs.RowLaw.{RowLeads, row-leads}

@@ -1,6 +1,5 @@
 -- Windows of lists that go together.
-use Rattle.std.specs.Prelude.{◌≡◌, ℕ, zero, suc, ◌+◌, ◌≤◌, List, [], ◌∷◌, length, take, drop, ℤ, refl}
-use Rattle.std.proofs.Common.{ap, arith, length-take, length-drop}
+use Rattle.std.specs.Prelude.{ℕ, zero, suc, List, [], ◌∷◌, take, drop, ℤ}
 use Rattle.fixed.specs.declared.row.WireRow.{WireRow}
 use Rattle.stages.specs.Containment.{AllProper, Inside, Held}
 

@@ -1,5 +1,5 @@
 -- A script as a text of lines. Assumes nothing.
-use Rattle.std.specs.Prelude.{ℕ, Bool, cond, List, [], ◌∷◌, ◌++◌, map, length, is_some, ◌==◌}
+use Rattle.std.specs.Prelude.{ℕ, Bool, cond, List, [], ◌∷◌, ◌++◌, length, is_some, ◌==◌}
 use Rattle.std.specs.Option.{option_to_list}
 use Rattle.calls.specs.Call.{Call}
 use Rattle.script.specs.Parts.{split}

@@ -1,10 +1,9 @@
 -- The law of a head.
-use Rattle.std.proofs.Common.{◌≡◌, ℕ, zero, suc, ◌+◌, ◌<◌, ◌≤◌, Bool, true, false, cond, ◌&&◌, ◌⊎◌, List, length, get_or, take, drop, Some, None, Ok, Err, Option, Result, sym, refl, ap, ◌∙◌, subst, inl, inr, ⊎_elim, arith}
+use Rattle.std.proofs.Common.{◌≡◌, ℕ, ◌<◌, true, ◌⊎◌, List, get_or, take, drop, Some, None, Ok, Err, Result, sym, ap, ◌∙◌, subst, inl, inr, ⊎_elim, arith}
 use Rattle.std.proofs.lemmas.List.FromFn.{length-map-range_with_len, get_or-map-range_with_len}
 use Rattle.std.proofs.lemmas.Bool.{both_ways}
 use Rattle.std.proofs.lemmas.Bool.Decides.{nat_tests}
-use Rattle.fixed.specs.Wire.{Proper, is_proper, no_row}
-use Rattle.fixed.specs.declared.row.WireRow.{WireRow}
+use Rattle.fixed.specs.Wire.{Proper, no_row}
 use Rattle.fixed.proofs.Chains.{then_ok, then-err}
 use Rattle.fixed.proofs.Wires.{proper-out, proper-in}
 use Rattle.settings.specs.declared.fields.Fields.{Fields}

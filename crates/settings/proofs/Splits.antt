@@ -1,5 +1,5 @@
 -- Parts of a list, as slices cut them.
-use Rattle.std.proofs.Common.{◌≡◌, ℕ, ◌+◌, ◌-◌, List, length, take, drop, ap, ◌∙◌, arith}
+use Rattle.std.proofs.Common.{◌≡◌, ℕ, ◌+◌, ◌-◌, List, length, take, drop, ap, arith}
 use Rattle.std.proofs.lemmas.List.{take_rest, drop-drop}
 
 -- `&rest[0..n]` after `[_, _, rest @ ..]`

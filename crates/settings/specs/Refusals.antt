@@ -1,5 +1,5 @@
 -- Why a call says no, in numbers. Assumes nothing.
-use Rattle.std.specs.Prelude.{ℕ, List, [], ◌∷◌, ◌++◌, codes, decimal}
+use Rattle.std.specs.Prelude.{ℕ, List, [], ◌++◌, codes, decimal}
 use Rattle.settings.specs.declared.refusal.Refusal.{Refusal}
 use Rattle.settings.specs.declared.refusal.Refusal.TheVariants.{FileSize, Version, HeaderLength, HeaderField, InputWire, RecordLength, UnknownKind, StageSize, StageLength, StageFormat, WeightCode, RangeSum, RangeOutput, WireError, TrailingBytes, OutputCount, AllowedError, NoFile, CodeCount, CodeRange, NoStage, RunSum, RunOutput, ShortBuffer}
 use Rattle.settings.specs.declared.refusal.Further.{Further}

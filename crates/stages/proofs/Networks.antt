@@ -1,12 +1,10 @@
 -- The network's law, from the law of the kinds alone.
-use Rattle.std.proofs.Common.{◌≡◌, ℕ, ◌≤◌, List, [], ◌∷◌, get_or, ℤ, Some, None, Ok, Err, Option, Result, sym, refl, ap, ◌∙◌, subst, arith}
+use Rattle.std.proofs.Common.{◌≡◌, ℕ, List, [], ◌∷◌, get_or, ℤ, Some, None, Ok, Option, sym, refl, ap, ◌∙◌, subst, arith}
 use Rattle.fixed.specs.Steps.{and_then}
 use Rattle.fixed.proofs.Chains.{then_ok}
-use Rattle.fixed.specs.declared.row.WireRow.{WireRow}
-use Rattle.stages.specs.declared.shape.Shape.{Shape}
-use Rattle.stages.specs.Kind.{Setting, setting, Exact, exactly, Kind, Kinds, kind_of}
-use Rattle.stages.specs.Containment.{Inside, Held, Stands, Given, Leads, Lawful, LawfulSet}
-use Rattle.stages.specs.Network.{kind_in, Stand, stand, wires_after, wires_through, codes_through, exact_through, Contained, NetworkLaw}
+use Rattle.stages.specs.Kind.{setting, Kind, Kinds, kind_of}
+use Rattle.stages.specs.Containment.{Held, Given, Lawful, LawfulSet}
+use Rattle.stages.specs.Network.{kind_in, Stand, stand, wires_after, wires_through, codes_through, Contained, NetworkLaw}
 
 -- a number that is not known leads nowhere
 pub lawful-at : (o : Option Kind) → ((k : Kind) → o ≡ Some k → Lawful k) → Lawful (kind_of o)

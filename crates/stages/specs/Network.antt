@@ -1,11 +1,11 @@
 -- Stages one after another, and the law of a network of them. Assumes nothing.
-use Rattle.std.specs.Prelude.{◌≡◌, ℕ, ◌≤◌, List, [], ◌∷◌, ℤ, Ok, Err, Result, slice_index}
+use Rattle.std.specs.Prelude.{◌≡◌, ℕ, ◌≤◌, List, [], ◌∷◌, ℤ, Ok, Result, slice_index}
 use Rattle.fixed.specs.Steps.{and_then}
 use Rattle.fixed.specs.declared.row.WireRow.{WireRow}
 use Rattle.stages.specs.declared.shape.Shape.{Shape}
 use Rattle.stages.specs.declared.shape.KindRefusal.{KindRefusal}
 use Rattle.stages.specs.declared.shape.RunRefusal.{RunRefusal}
-use Rattle.stages.specs.Kind.{Setting, setting, Exact, exactly, Kind, Kinds, kind_of}
+use Rattle.stages.specs.Kind.{setting, Exact, Kind, Kinds, kind_of}
 use Rattle.stages.specs.Containment.{Inside, Held, Stands}
 
 -- a record names its kind by its first byte

@@ -1,5 +1,5 @@
-use Rattle.std.proofs.Common.{◌≡◌, ◌^◌, sym, subst, arith, pow_pos, w64, SFits}
-use lib.Signed.{shr_z, mag_shr}
+use Rattle.std.proofs.Common.{◌^◌, sym, subst, arith, pow_pos, w64, SFits}
+use lib.Signed.{mag_shr}
 use Rattle.std.proofs.lemmas.Int.{to_z-of_z}
 use Rattle.fixed.specs.Floor.{floor_shift, Floors}
 use Rattle.fixed.proofs.Floors.{floors, shift_same}

@@ -1,4 +1,4 @@
-use Rattle.std.proofs.Common.{◌≡◌, ℕ, ◌+◌, ◌-◌, ◌^◌, ◌<◌, min, pos, sym, ap, ◌∙◌, subst, arith, w64, SFits, rules}
+use Rattle.std.proofs.Common.{◌≡◌, ◌+◌, ◌-◌, ◌^◌, ◌<◌, min, pos, sym, ap, ◌∙◌, subst, arith, w64, SFits, rules}
 use lib.Count.{count_leading_zeros}
 use lib.Signed.{mag}
 use Rattle.std.specs.Int.{int_max, int_min}

@@ -1,7 +1,5 @@
-use Rattle.std.proofs.Common.{◌≡◌, ℤ, pos, string_bytes, sym, ap, ◌∙◌, w32, w64, SFits, rules}
-use Rattle.std.specs.Fmt.{signed_decimal}
+use Rattle.std.proofs.Common.{◌≡◌, pos, string_bytes, sym, ap, ◌∙◌, w64, SFits, rules}
 use Rattle.std.proofs.lemmas.Int.{to_z-of_z}
-use Rattle.fixed.specs.Format.{grains_of}
 use Rattle.inspect.specs.Decimals.{grains_text}
 use Rattle.inspect.specs.Account.{allowed_text}
 use Rattle.inspect.proofs.account.allowed_account.Goals as goal

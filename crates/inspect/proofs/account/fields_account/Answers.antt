@@ -1,5 +1,5 @@
-use Rattle.std.proofs.Common.{◌≡◌, string_bytes, sym}
-use Rattle.inspect.specs.Account.{format_text, allowed_text, pickup_text, fields_text}
+use Rattle.std.proofs.Common.{sym}
+use Rattle.inspect.specs.Account.{fields_text}
 use Rattle.inspect.proofs.account.fields_account.Goals as goal
 
 pub returns : goal.returns

@@ -1,4 +1,3 @@
-use Rattle.std.proofs.Common.{rules}
 use Rattle.inspect.specs.Account.{format_text}
 use Rattle.inspect.proofs.account.format_account.Goals as goal
 

@@ -1,7 +1,6 @@
-use Rattle.std.proofs.Common.{◌≡◌, ◌++◌, get_or, string_bytes, sym, ap, ◌∙◌, rules}
+use Rattle.std.proofs.Common.{◌≡◌, ◌++◌, get_or, string_bytes, ap, ◌∙◌}
 use Rattle.fixed.specs.Wire.{no_row}
-use Rattle.settings.specs.declared.fields.Fields.{Fields}
-use Rattle.inspect.specs.Account.{fields_text, input_text, inputs_text, head_text}
+use Rattle.inspect.specs.Account.{fields_text, input_text, inputs_text}
 use Rattle.inspect.proofs.Lines.{line-more, line-all}
 use Rattle.inspect.proofs.account.head_account.Goals as goal
 

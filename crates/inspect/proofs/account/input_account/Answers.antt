@@ -1,7 +1,5 @@
-use Rattle.std.proofs.Common.{◌≡◌, pos, string_bytes, sym, ap, ◌∙◌, w32, w64, SFits, rules}
-use Rattle.std.proofs.lemmas.Int.{to_z-of_z}
-use Rattle.inspect.specs.Decimals.{grains_text}
-use Rattle.inspect.specs.Account.{code_text, range_text, error_text, input_text}
+use Rattle.std.proofs.Common.{sym}
+use Rattle.inspect.specs.Account.{input_text}
 use Rattle.inspect.proofs.account.input_account.Goals as goal
 
 pub returns : goal.returns

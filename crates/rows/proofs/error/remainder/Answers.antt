@@ -1,9 +1,7 @@
-use Rattle.std.proofs.Common.{◌≡◌, ℕ, ◌+◌, ◌-◌, ◌*◌, ◌%◌, ◌^◌, ◌<◌, ◌≤◌, max, true, false, length, get_or, drop, ℤ, pos, nat_abs, sym, ap, ◌∙◌, subst, ap₂, mod-lt, mul-le-mul, arith, pow_pos, w32, w64, SFits, rules}
+use Rattle.std.proofs.Common.{◌≡◌, true, false, pos, sym, ap, ◌∙◌, mod-lt, arith, pow_pos, w64, SFits, rules}
 use lib.Signed.{mag, lt_z}
 use borrow.Author.Differences.{ints}
 use Rattle.std.proofs.lemmas.Int.{to_z-of_z}
-use Rattle.std.proofs.lemmas.List.{drop_more, drop_all}
-use Rattle.rows.specs.Row.{remainder, reach, spread_of, spread}
 use Rattle.rows.specs.Remainders.{remainder-above, remainder-below, unit-is, unit-most}
 use Rattle.rows.proofs.error.remainder.Goals as goal
 

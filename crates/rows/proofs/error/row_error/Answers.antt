@@ -1,7 +1,5 @@
-use Rattle.std.proofs.Common.{◌≡◌, ℕ, ◌+◌, ◌-◌, ◌*◌, ◌/◌, ◌%◌, ◌^◌, ◌<◌, ◌≤◌, sym, ap, ◌∙◌, ap₂, arith, pow_mono, w32, SFits, rules}
-use Rattle.std.proofs.lemmas.Int.{to_z-of_z}
+use Rattle.std.proofs.Common.{◌-◌, ◌≤◌, ap, arith, pow_mono}
 use Rattle.rows.specs.declared.scales.Scales.{Scales}
-use Rattle.rows.specs.Row.{remainder, spread, row_error}
 use Rattle.rows.specs.Remainders.{unit-is}
 use Rattle.rows.proofs.error.row_error.Goals as goal
 

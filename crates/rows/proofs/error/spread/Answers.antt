@@ -1,11 +1,8 @@
-use Rattle.std.proofs.Common.{◌≡◌, ℕ, ◌+◌, ◌-◌, ◌*◌, ◌%◌, ◌^◌, ◌<◌, ◌≤◌, max, true, false, length, get_or, drop, ℤ, pos, nat_abs, sym, ap, ◌∙◌, subst, ap₂, mod-lt, mul-le-mul, arith, pow_pos, w32, w64, SFits, rules}
-use lib.Signed.{mag, lt_z}
-use borrow.Author.Differences.{ints}
+use Rattle.std.proofs.Common.{◌≡◌, get_or, pos, arith, w32, SFits, rules}
 use Rattle.std.proofs.lemmas.Int.{to_z-of_z}
-use Rattle.std.proofs.lemmas.List.{drop_more, drop_all}
-use Rattle.rows.specs.Row.{remainder, reach, spread_of, spread}
+use Rattle.rows.specs.Row.{spread_of}
 use Rattle.fixed.specs.Wire.{no_row}
-use Rattle.rows.specs.Remainders.{remainder-above, remainder-below, unit-is, unit-most, spread-more, spread-all}
+use Rattle.rows.specs.Remainders.{spread-more, spread-all}
 use Rattle.rows.proofs.error.spread.Goals as goal
 
 pub loop-i-preserved : goal.loop-i-preserved

@@ -1,11 +1,10 @@
-use Rattle.std.proofs.Common.{◌≡◌, ℕ, ◌-◌, true, false, cond, leb, length, take, Ok, Err, sym, ap, ◌∙◌, subst, ap₂, arith, w32, SFits, rules, le-leb}
+use Rattle.std.proofs.Common.{◌≡◌, ◌-◌, true, false, cond, leb, length, take, Ok, Err, sym, ap, ◌∙◌, ap₂, arith, w32, SFits, rules, le-leb}
 use borrow.Author.Tests.{lt-leb}
 use Rattle.std.proofs.lemmas.Int.{to_z-of_z}
 use Rattle.fixed.specs.Wire.{most_error}
-use Rattle.fixed.specs.declared.row.WireRow.{WireRow}
 use Rattle.stages.specs.declared.shape.KindRefusal.TheVariants.{WireError}
 use Rattle.rows.specs.declared.scales.Scales.{Scales}
-use Rattle.rows.specs.Row.{all_fit, weight_codes, row_error, row_wire}
+use Rattle.rows.specs.Row.{all_fit, weight_codes, row_error}
 use Rattle.rows.specs.RowWires.{wire_with, unless_far, row-wire}
 use Rattle.rows.proofs.row.judge_row.Goals as goal
 

@@ -1,7 +1,7 @@
-use Rattle.std.proofs.Common.{◌≡◌, ℕ, ◌+◌, length, set, Ok, Err, sym, ap, ◌∙◌, subst, arith, rules}
+use Rattle.std.proofs.Common.{ℕ, ◌+◌, set, Err, sym, ap, ◌∙◌, subst, arith}
 use Rattle.std.proofs.lemmas.Result.{err_from_is_err_and}
 use Rattle.stages.specs.Kind.{map_ok, over}
-use Rattle.rows.specs.Layout.{row_at, outputs_from}
+use Rattle.rows.specs.Layout.{row_at}
 use Rattle.rows.specs.Outputs.{Progress, progress-none, progress-more, progress-fails, progress-all}
 use Rattle.rows.proofs.rows.all_rows.Goals as goal
 

@@ -1,5 +1,4 @@
-use Rattle.std.proofs.Common.{◌≡◌, ℕ, ◌+◌, ◌*◌, ◌<◌, ◌≤◌, sym, subst, arith, lit<}
-use Rattle.rows.specs.Plan.{Windows}
+use Rattle.std.proofs.Common.{sym, arith, lit<}
 use Rattle.rows.proofs.through.judge_plan.Goals as goal
 
 pub all_rows-requires : goal.all_rows-requires

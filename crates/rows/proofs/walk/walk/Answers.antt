@@ -1,4 +1,4 @@
-use Rattle.std.proofs.Common.{◌≡◌, ◌+◌, ◌<◌, true, false, cond, length, get_or, drop, pos, Some, None, sym, refl, ap, ◌∙◌, arith, w32, SFits, rules}
+use Rattle.std.proofs.Common.{◌+◌, ◌<◌, cond, length, get_or, drop, pos, Some, None, sym, refl, ap, ◌∙◌, arith, w32, SFits, rules}
 use Rattle.std.proofs.lemmas.Int.{to_z-of_z}
 use Rattle.rows.specs.Walk.{walked}
 use Rattle.rows.proofs.Walks.{walk_more, walk-fails, walk-all}

@@ -1,4 +1,4 @@
-use Rattle.std.proofs.Common.{◌≡◌, ◌+◌, true, false, ◌&&◌, length, get_or, drop, ℤ, pos, sym, ap, ◌∙◌, ap₂, arith, w32, w64, SFits, rules}
+use Rattle.std.proofs.Common.{◌≡◌, ◌+◌, true, false, ◌&&◌, get_or, drop, pos, sym, ap, ◌∙◌, ap₂, w32, w64, SFits, rules}
 use Rattle.std.proofs.lemmas.List.{at_drop_more, at_drop_all}
 use Rattle.std.proofs.lemmas.Int.{to_z-of_z}
 use Rattle.fixed.specs.Word.{fits_word}

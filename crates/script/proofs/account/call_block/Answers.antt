@@ -1,4 +1,4 @@
-use Rattle.std.proofs.Common.{◌≡◌, map, drop, string_bytes, sym, ap, ◌∙◌}
+use Rattle.std.proofs.Common.{map, drop, string_bytes, sym, ap, ◌∙◌}
 use Rattle.calls.specs.Written.{call_in, told_in}
 use Rattle.script.specs.Account.{first_text}
 use Rattle.script.proofs.Shown.{drop-map-all, first-at, first-none}

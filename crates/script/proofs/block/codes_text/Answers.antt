@@ -1,4 +1,4 @@
-use Rattle.std.proofs.Common.{◌≡◌, List, ◌++◌, get_or, ℤ, pos, string_bytes, codes, refl, ◌∙◌}
+use Rattle.std.proofs.Common.{◌≡◌, ◌++◌, get_or, pos, string_bytes, codes, refl, ◌∙◌}
 use Rattle.std.specs.Fmt.{signed_decimal}
 use Rattle.script.specs.Block.{codes_text}
 use Rattle.script.proofs.Texts.{text-more, text-all}

@@ -1,4 +1,4 @@
-use Rattle.std.proofs.Common.{◌≡◌, sym}
+use Rattle.std.proofs.Common.{sym}
 use Rattle.script.proofs.block.frame_block.Goals as goal
 
 pub returns-in_ok-status-in-Ok : goal.returns-in_ok-status-in-Ok

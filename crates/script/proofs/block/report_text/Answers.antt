@@ -1,5 +1,5 @@
-use Rattle.std.proofs.Common.{◌≡◌, sym}
-use Rattle.script.specs.Block.{status_text, report_text}
+use Rattle.std.proofs.Common.{sym}
+use Rattle.script.specs.Block.{report_text}
 use Rattle.script.proofs.block.report_text.Goals as goal
 
 pub returns : goal.returns

@@ -1,4 +1,4 @@
-use Rattle.std.proofs.Common.{◌≡◌, w32, SFits, rules}
+use Rattle.std.proofs.Common.{w32, SFits, rules}
 use Rattle.std.proofs.lemmas.Int.{to_z-of_z}
 use Rattle.script.specs.Block.{row_text}
 use Rattle.script.proofs.block.row_text.Goals as goal

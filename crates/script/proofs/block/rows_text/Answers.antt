@@ -1,4 +1,4 @@
-use Rattle.std.proofs.Common.{◌≡◌, string_bytes, refl, ◌∙◌}
+use Rattle.std.proofs.Common.{string_bytes, refl, ◌∙◌}
 use Rattle.calls.specs.Call.{no_certificate}
 use Rattle.script.specs.Block.{row_text, rows_text}
 use Rattle.script.proofs.Texts.{text-more, text-all}

@@ -1,4 +1,4 @@
-use Rattle.std.proofs.Common.{◌≡◌, ◌-◌, ◌≤◌, List, [], ◌∷◌, ◌++◌, length, get_or, take, drop, Some, vec_items, sym, ap, ◌∙◌, rules}
+use Rattle.std.proofs.Common.{◌≡◌, ◌-◌, ◌≤◌, [], ◌∷◌, ◌++◌, length, get_or, take, drop, Some, vec_items, sym, ap, ◌∙◌, rules}
 use Rattle.script.specs.Parts.{onto}
 use Rattle.script.specs.Numbers.{hex_digit, byte_by, bytes_in}
 use Rattle.script.proofs.Steps.{prepended, prepended-more, bytes-more}

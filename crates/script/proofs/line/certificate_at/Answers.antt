@@ -1,4 +1,4 @@
-use Rattle.std.proofs.Common.{◌≡◌, ℕ, ◌<◌, length, drop, replicate, Some, None, sym, refl, ap, ◌∙◌, arith, length-drop}
+use Rattle.std.proofs.Common.{◌≡◌, ◌<◌, length, drop, replicate, Some, None, sym, refl, ap, ◌∙◌, arith, length-drop}
 use Rattle.calls.specs.Call.{certificate, no_certificate}
 use Rattle.script.specs.Parts.{parts_after}
 use Rattle.script.specs.Lines.{further, certificate_by}

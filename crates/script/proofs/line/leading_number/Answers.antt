@@ -1,4 +1,4 @@
-use Rattle.std.proofs.Common.{◌≡◌, ◌≤◌, length, sym, ap, ◌∙◌, arith, rules}
+use Rattle.std.proofs.Common.{◌≤◌, length, sym, ap, ◌∙◌, arith, rules}
 use Rattle.script.specs.Lines.{first_number, further}
 use Rattle.script.proofs.Steps.{behind-length, next-part}
 use Rattle.script.proofs.line.leading_number.Goals as goal

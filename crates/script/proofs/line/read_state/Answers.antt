@@ -1,4 +1,4 @@
-use Rattle.std.proofs.Common.{◌≡◌, ◌<◌, length, None, sym, refl, arith}
+use Rattle.std.proofs.Common.{◌<◌, length, None, sym, refl, arith}
 use Rattle.std.proofs.lemmas.Bool.Decides.{nat_tests}
 use Rattle.calls.specs.Call.{state}
 use Rattle.script.specs.Lines.{alone}

@@ -1,4 +1,4 @@
-use Rattle.std.proofs.Common.{◌≡◌, ◌∙◌, arith, rules, eq-eqb, ne_eqb}
+use Rattle.std.proofs.Common.{◌∙◌, arith, eq-eqb, ne_eqb}
 use Rattle.script.proofs.Steps.{split-more, split-here, split-all}
 use Rattle.script.proofs.part.part_len.Goals as goal
 

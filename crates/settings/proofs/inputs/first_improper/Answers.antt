@@ -1,4 +1,4 @@
-use Rattle.std.proofs.Common.{◌≡◌, ℕ, ◌+◌, ◌-◌, ◌<◌, Bool, true, false, cond, Some, sym, ap, ◌∙◌, arith}
+use Rattle.std.proofs.Common.{◌≡◌, ℕ, ◌+◌, ◌-◌, Bool, true, false, cond, Some, sym, ap, ◌∙◌, arith}
 use Rattle.fixed.specs.Wire.{is_proper}
 use Rattle.settings.specs.Firsts.{first_failing}
 use Rattle.settings.specs.Head.{input_row}

@@ -1,4 +1,4 @@
-use Rattle.std.proofs.Common.{◌≡◌, ◌-◌, ◌^◌, ◌<◌, ◌≤◌, ℤ, pos, ◌*ℤ◌, ap, arith, w64, SFits, rules}
+use Rattle.std.proofs.Common.{◌≡◌, arith, w64, SFits, rules}
 use Rattle.std.proofs.lemmas.Int.{to_z-of_z}
 use Rattle.fixed.proofs.Scales.{unit-is, scaled_fits}
 use Rattle.fixed.proofs.format.makes.scaled.Goals as goal

@@ -1,5 +1,4 @@
-use Rattle.std.proofs.Common.{◌≡◌, ◌+◌, ◌^◌, ◌<◌, sym, w32, w64, SFits, rules}
-use lib.Signed.{mag}
+use Rattle.std.proofs.Common.{◌+◌, sym, w32, SFits, rules}
 use Rattle.std.proofs.lemmas.Int.{to_z-of_z}
 use Rattle.fixed.specs.Word.{Least}
 use Rattle.fixed.proofs.Words.{bits-needed}

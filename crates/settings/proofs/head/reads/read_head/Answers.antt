@@ -1,4 +1,4 @@
-use Rattle.std.proofs.Common.{◌≡◌, ◌++◌, drop, sym, ap, ◌∙◌, subst, arith, rules}
+use Rattle.std.proofs.Common.{◌++◌, drop, sym, ap, ◌∙◌, arith, rules}
 use Rattle.settings.specs.Records.{Split}
 use Rattle.settings.specs.declared.fields.Fields.{Fields}
 use Rattle.settings.specs.Head.{input_rows}
