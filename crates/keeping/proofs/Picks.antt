@@ -2,7 +2,7 @@
 use Rattle.std.proofs.Common.{◌≡◌, ℕ, zero, suc, ◌+◌, ◌-◌, ◌*◌, ◌<◌, List, [], ◌∷◌, ◌++◌, length, get_or, take, drop, replicate, ℤ, pos, ◌≤ℤ◌, fold, sym, refl, ap, ◌∙◌, subst, ⊎_elim, suc-mul, zero-mul, arith}
 use borrow.Author.Differences.{ints}
 use Rattle.std.specs.Int.{int_max}
-use Rattle.std.specs.List.{ContainsAt as Has, AllByRecursion as All}
+use Rattle.std.specs.List.{ContainsAt, AllByRecursion}
 use Rattle.std.proofs.lemmas.List.{drop-drop}
 use Rattle.std.proofs.lemmas.Int.{clamps}
 use Rattle.std.proofs.ByRecursion.{folded_max_z_bounds, folded_max_z_reached}
@@ -21,14 +21,14 @@ from-split larger p (suc k) b (x ∷ xs) = from-split larger p k (larger b x) xs
 
 -- r is an element of the block, and none exceeds it
 abbrev Picked : List ℤ → ℤ → Type 0
-Picked block r = Has block r × All (λ c. c ≤ℤ r) block
+Picked block r = ContainsAt block r × AllByRecursion (λ c. c ≤ℤ r) block
 
 picked-folded : (x : ℤ) (xs : List ℤ) → Picked (x ∷ xs) (fold int_max x xs)
 picked-folded x xs =
     let r = fold int_max x xs in (
       ⊎_elim
           (λ (e : r ≡ x). (0, omega arith, λ d. sym e))
-          (λ (h : Has xs r). (suc h.0, omega (arith, h.1), h.2))
+          (λ (h : ContainsAt xs r). (suc h.0, omega (arith, h.1), h.2))
           (folded_max_z_reached x xs r refl),
       folded_max_z_bounds x xs r refl,
     )
