@@ -1,5 +1,5 @@
 -- Taken frames of an accepted file: their codes, and which of them are picked.
-use Rattle.std.proofs.Common.{◌≡◌, ℕ, ◌*◌, Bool, true, List, [], ◌∷◌, map, get_or, ℤ, pos, Some, None, Ok, Option, Result, sym, refl, ap, ◌∙◌, subst, arith, pow_pos}
+use Rattle.std.proofs.Common.{◌≡◌, ℕ, ◌*◌, Bool, List, [], ◌∷◌, map, get_or, ℤ, pos, Some, None, Ok, Option, Result, sym, refl, ap, ◌∙◌, subst, arith, pow_pos}
 use lib.Signed.{le_z}
 use Rattle.fixed.specs.Format.{grains_of}
 use Rattle.fixed.specs.Steps.{and_then}

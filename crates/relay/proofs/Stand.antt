@@ -15,7 +15,7 @@ use Rattle.verdict.proofs.Judged.{map-ok}
 use Rattle.calls.specs.declared.status.Status.{Status}
 use Rattle.calls.specs.Call.{Call, load, frame, reset, state, certificate, bench, Answer, framed, Left, nothing, Event}
 use Rattle.calls.specs.Written.{answered}
-use Rattle.counter.specs.Counter.{idle, stepped, cleared}
+use Rattle.counter.specs.Counter.{stepped, cleared}
 use Rattle.relay.specs.Rules.{State, loaded_by, load_after, frame_answer, with_status, if_kept, called}
 use Rattle.relay.specs.Ways.{event, Way, new, then, Run, run_more, run_on}
 use Rattle.relay.specs.Past.{taken, file_after, loaded_after, frames_since}

@@ -1,6 +1,4 @@
 use Rattle.std.proofs.Common.{◌≡◌, sym, refl, ap, ◌∙◌}
-use Rattle.calls.specs.declared.request.Request.{Request}
-use Rattle.calls.specs.declared.request.Request.TheVariants as ask
 use Rattle.calls.specs.Call as call
 use Rattle.calls.specs.Written.{answered, call_in}
 use Rattle.relay.specs.Held.{held}
