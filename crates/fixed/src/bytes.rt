@@ -5,7 +5,7 @@ ghost use Rattle.fixed.specs.Bytes.{u16_at, u32_at, i32_at};
 fn byte_at(bytes: &[u8], i: usize) -> u8
     ensures { result ≡ slice_index bytes.now i }
 {
-    if i < bytes.len() { bytes[i] } else { 0 }
+    bytes.get(i).copied().unwrap_or(0)
 }
 
 pub fn u8_at(bytes: &[u8], i: u32) -> u8
@@ -21,7 +21,8 @@ pub fn u16_at(bytes: &[u8], i: u32) -> u16
     u16::from_be_bytes([byte_at(bytes, i), byte_at(bytes, i + 1)])
 }
 
-// Four bytes from place i on.
+// Four bytes from place i on. One function for two bytes and for four is no plainer: `array::from_fn` and a part of an array
+// whose length is a const parameter have no proof yet, and a loop over the places is longer than the places.
 fn four_at(bytes: &[u8], i: u32) -> [u8; 4]
     ensures { result ≡ slice_index bytes.now i ∷ (slice_index bytes.now (i + 1) ∷ (slice_index bytes.now (i + 2) ∷ (slice_index bytes.now (i + 3) ∷ []))) }
 {

@@ -5,7 +5,7 @@ ghost use Rattle.fixed.specs.Word.{Least, bits_needed};
 use crate::word::length;
 
 // One number that is passed between stages: the least and the greatest code, and the error in grains.
-#[derive(Clone, Copy, PartialEq, Eq, Debug)]
+#[derive(Clone, Copy, PartialEq, Eq, Debug, Default)]
 pub struct WireRow {
     pub low: i32,
     pub high: i32,

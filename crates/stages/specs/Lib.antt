@@ -1,3 +1,5 @@
 pub mod Kind
 pub mod Containment
 pub mod Network
+pub mod Facts
+pub mod Wires

@@ -5,7 +5,7 @@ use Rattle.fixed.specs.declared.row.WireRow.{WireRow}
 use Rattle.stages.specs.declared.shape.Shape.{Shape}
 use Rattle.stages.specs.declared.shape.KindRefusal.{KindRefusal}
 use Rattle.stages.specs.declared.shape.RunRefusal.{RunRefusal}
-use Rattle.stages.specs.Kind.{setting, Exact, Kind, Kinds, kind_of}
+use Rattle.stages.specs.Kind.{Setting, setting, Exact, Kind, Kinds, kind_of}
 use Rattle.stages.specs.Containment.{Inside, Held, Stands}
 
 -- a record names its kind by its first byte
@@ -20,10 +20,13 @@ pub record Stand : Type 0 where
 abbrev pub stand : Shape → List WireRow → Stand
 stand s xs = record { shape = s; wires = xs }
 
+-- the wires after a stage of a kind
+abbrev pub wires_by : Kind → Setting → List WireRow → Result Stand KindRefusal
+wires_by k s xs = and_then (k.wires s xs) (λ ys. Ok (stand (k.after s) ys))
+
 -- the wires after a stage with accumulator a and record b
 abbrev pub wires_after : Kinds → ℕ → List ℕ → Stand → Result Stand KindRefusal
-wires_after m a b st =
-    and_then ((kind_in m b).wires (setting b a st.shape) st.wires) (λ ys. Ok (stand ((kind_in m b).after (setting b a st.shape)) ys))
+wires_after m a b st = wires_by (kind_in m b) (setting b a st.shape) st.wires
 
 -- the wires after the stages with these records
 abbrev pub wires_through : Kinds → ℕ → List (List ℕ) → Stand → Result Stand KindRefusal

@@ -1,9 +1,13 @@
 // A set of stage kinds, by what each number that it knows means.
 ghost use Rattle.std.specs.Prelude.{◌≡◌, ℕ, length, is_some, Some as some};
-ghost use Rattle.stages.specs.Kind.{Kind, Kinds, kind_of, setting, map_ok, over};
+ghost use Rattle.stages.specs.Kind.{Kind, Kinds, kind_of, map_ok};
 ghost use Rattle.stages.specs.Containment.{Lawful, Given, Passes};
+ghost use Rattle.stages.specs.Network.{wires_by};
+ghost use Rattle.stages.specs.Wires.{setting_in, wires_in};
 
-use crate::shape::{KindRefusal, RunRefusal, Shape};
+use crate::shape::{KindRefusal, RunRefusal};
+use crate::stage::Stage;
+use crate::wires::{Codes, Wires};
 use fixed::row::WireRow;
 
 pub trait KindSet {
@@ -12,34 +16,21 @@ pub trait KindSet {
     fn knows(&self, number: u8) -> bool
         ensures { result ≡ is_some (meaning self.now number) };
 
-    // The wires after a stage in front of the lent table, and the shape after it.
+    // The wires after a stage.
     fn judge(
         &self,
         number: u8,
-        bytes: &[u8],
-        accumulator: u8,
-        before: Shape,
-        rows: &[WireRow],
-        out: &mut [WireRow; 64],
-    ) -> Result<Shape, KindRefusal>
-        requires { Given (setting bytes.now accumulator before) rows.now }
-        ensures answer { result ≡ map_ok (λ _. (kind_of (meaning self.now number)).after (setting bytes.now accumulator before)) ((kind_of (meaning self.now number)).wires (setting bytes.now accumulator before) rows.now) }
-        ensures table { out.new ≡ over ((kind_of (meaning self.now number)).wires (setting bytes.now accumulator before) rows.now) out.old };
+        stage: Stage<'_>,
+        wires: &[WireRow],
+    ) -> Result<Wires, KindRefusal>
+        requires { Given (setting_in stage) wires.now }
+        ensures { map_ok wires_in result ≡ wires_by (kind_of (meaning self.now number)) (setting_in stage.entry) wires.now };
 
-    // The codes after a stage that some wires pass, in front of the lent table, and how many.
-    fn run(
-        &self,
-        number: u8,
-        bytes: &[u8],
-        accumulator: u8,
-        before: Shape,
-        codes: &[i32],
-        out: &mut [i32; 64],
-    ) -> Result<usize, RunRefusal>
-        requires passes { Passes (kind_of (meaning self.now number)) (setting bytes.now accumulator before) }
-        requires many { length codes.now ≡ before.count }
-        ensures answer { result ≡ map_ok length ((kind_of (meaning self.now number)).code (setting bytes.now accumulator before) codes.now) }
-        ensures table { out.new ≡ over ((kind_of (meaning self.now number)).code (setting bytes.now accumulator before) codes.now) out.old };
+    // The codes after a stage that some wires pass.
+    fn run(&self, number: u8, stage: Stage<'_>, codes: &[i32]) -> Result<Codes, RunRefusal>
+        requires passes { Passes (kind_of (meaning self.now number)) (setting_in stage) }
+        requires many { length codes.now ≡ stage.before.count }
+        ensures { map_ok (λ v. v.items) result ≡ (kind_of (meaning self.now number)).code (setting_in stage.entry) codes.now };
 
     ghost lawful: { (s : Self) (n : ℕ) (k : Kind) → meaning s n ≡ some k → Lawful k };
 }

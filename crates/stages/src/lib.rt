@@ -5,3 +5,5 @@ pub mod kind_set;
 pub mod network;
 pub mod pair;
 pub mod shape;
+pub mod stage;
+pub mod wires;

@@ -4,7 +4,9 @@ ghost use Rattle.stages.specs.Kind.{or_else};
 ghost use Rattle.std.proofs.Common.{rules};
 
 use crate::kind_set::KindSet;
-use crate::shape::{KindRefusal, RunRefusal, Shape};
+use crate::shape::{KindRefusal, RunRefusal};
+use crate::stage::Stage;
+use crate::wires::{Codes, Wires};
 use fixed::row::WireRow;
 
 #[derive(Clone, Copy)]
@@ -25,34 +27,23 @@ impl<A: KindSet, B: KindSet> KindSet for Pair<A, B> {
     fn judge(
         &self,
         number: u8,
-        bytes: &[u8],
-        accumulator: u8,
-        before: Shape,
-        rows: &[WireRow],
-        out: &mut [WireRow; 64],
-    ) -> Result<Shape, KindRefusal> {
+        stage: Stage<'_>,
+        wires: &[WireRow],
+    ) -> Result<Wires, KindRefusal> {
         let Pair { first, second } = self;
         if first.knows(number) {
-            first.judge(number, bytes, accumulator, before, rows, out)
+            first.judge(number, stage, wires)
         } else {
-            second.judge(number, bytes, accumulator, before, rows, out)
+            second.judge(number, stage, wires)
         }
     }
 
-    fn run(
-        &self,
-        number: u8,
-        bytes: &[u8],
-        accumulator: u8,
-        before: Shape,
-        codes: &[i32],
-        out: &mut [i32; 64],
-    ) -> Result<usize, RunRefusal> {
+    fn run(&self, number: u8, stage: Stage<'_>, codes: &[i32]) -> Result<Codes, RunRefusal> {
         let Pair { first, second } = self;
         if first.knows(number) {
-            first.run(number, bytes, accumulator, before, codes, out)
+            first.run(number, stage, codes)
         } else {
-            second.run(number, bytes, accumulator, before, codes, out)
+            second.run(number, stage, codes)
         }
     }
 }
