@@ -50,8 +50,8 @@ fault b i e =
       before = λ j h. proper-out (fields_of b).word (input_row b j) (f.3 j (omega arith) h);
     }
 
-pub head-law : (file : List ℕ) → HeadLaw file
-head-law file = record { accepted = accepted; refused = refused }
+pub head_law : (file : List ℕ) → HeadLaw file
+head_law file = record { accepted = accepted; refused = refused }
   where
     accepted : (h : Head) → head_of file ≡ Ok h → Sound h
     accepted h e =

@@ -5,12 +5,13 @@ use Rattle.std.proofs.lemmas.List.FromFn.{length-map-range_with_len}
 use Rattle.std.proofs.lemmas.Bool.Decides.{nat_tests}
 use Rattle.fixed.specs.declared.row.WireRow.{WireRow}
 use Rattle.settings.specs.declared.fields.Fields.{Fields}
+use Rattle.settings.specs.declared.refusal.Refusal.{Refusal}
 use Rattle.settings.specs.declared.refusal.Refusal.TheVariants.{HeaderLength, HeaderField, InputWire}
 use Rattle.fixed.specs.Bytes.{u16_at}
 use Rattle.settings.specs.Records.{Split, split_record}
 use Rattle.settings.specs.Limits.{fields_of, in_limits}
 use Rattle.fixed.specs.Steps.{and_then}
-use Rattle.settings.specs.Head.{input_row, input_rows, is_header, records_of, header_record, first_improper, unless_improper, checked_fields, head_with, head_from, head_of, inputs_over}
+use Rattle.settings.specs.Head.{input_row, input_rows, is_header, records_of, header_record, first_improper, unless_improper, limited_fields, checked_inputs, checked_fields, head_with, head_from, head_of}
 
 pub records-ok : (file xs : List ℕ) → records_of file ≡ Ok xs → xs ≡ drop 1 file
 records-ok file xs e = grind (arith, nat_tests)
@@ -70,19 +71,50 @@ head_ok file xs s h p q r =
     ∙ ap (λ o. and_then o head_from) q
     ∙ ap (λ o. and_then o (λ k. Ok (head_with s k))) r
 
--- what the call leaves: the inputs in front, the rest of the file after the header
-pub head-in : (file xs : List ℕ) (s : Split) (h : Fields) (before after : List WireRow) (start : ℕ)
-    → start ≡ 3 + length s.front → records_of file ≡ Ok xs → header_record (split_record xs) ≡ Ok s → checked_fields s.front ≡ Ok h
-    → after ≡ input_rows s.front h.inputs ++ drop h.inputs before
-    → (Ok (record { header = h; inputs = take h.inputs after; rest = drop start file }) ≡ head_of file)
-    × (after ≡ inputs_over (head_of file) before)
-head-in file xs s h before after start at p q r t =
-    let ok = head_ok file xs s h p q r in
-    let n = length-map-range_with_len (input_row s.front) 0 h.inputs in
-    let front : take h.inputs after ≡ input_rows s.front h.inputs = ap (take h.inputs) t ∙ take_at _ _ h.inputs n in
-    let rest : drop start file ≡ s.rest =
-    ap (λ k. drop k file) (omega arith) ∙ sym (drop-drop (2 + length s.front) 1 file)
-    ∙ ap (drop (2 + length s.front)) (sym (records-ok file xs p)) ∙ sym (record-ok xs s q).1 in
-    let table : after ≡ input_rows s.front h.inputs ++ drop (length (input_rows s.front h.inputs)) before =
-    t ∙ ap (λ k. input_rows s.front h.inputs ++ drop k before) (sym n) in
-    (ap₂ (λ i f. Ok (record { header = h; inputs = i; rest = f })) front rest ∙ sym ok, table ∙ ap (λ o. inputs_over o before) (sym ok))
+limited : (b : List ℕ) (h : Fields) → limited_fields b ≡ Ok h → (in_limits (fields_of b) ≡ true) × (h ≡ fields_of b)
+limited b h e = by (in_limits (fields_of b)) refl e
+  where
+    by : (t : Bool) → in_limits (fields_of b) ≡ t → cond t (Ok (fields_of b)) (Err HeaderField) ≡ Ok h → (in_limits (fields_of b) ≡ true) × (h ≡ fields_of b)
+    by true p q = (p, cc)
+    by false p q = let z : ◌≡◌ {A = ℕ} 0 1 = cc in absurd (omega arith)
+
+-- fields and rows that are read one after the other
+pub read-ok : (b : List ℕ) (h : Fields) (rows : List WireRow) → limited_fields b ≡ Ok h → checked_inputs b h ≡ Ok rows
+    → (checked_fields b ≡ Ok h) × (rows ≡ input_rows b h.inputs)
+read-ok b h rows l e =
+    let t = limited b h l in
+    subst (λ (k : Fields). (checked_fields b ≡ Ok k) × (rows ≡ input_rows b k.inputs)) (sym t.1)
+    (by (first_improper b) refl t.0 (subst (λ (k : Fields). checked_inputs b k ≡ Ok rows) t.1 e))
+  where
+    by : (o : Option ℕ) → first_improper b ≡ o → in_limits (fields_of b) ≡ true → unless_improper o (input_rows b (fields_of b).inputs) ≡ Ok rows
+        → (checked_fields b ≡ Ok (fields_of b)) × (rows ≡ input_rows b (fields_of b).inputs)
+    by None p t q = (ap₂ (λ k o. cond k (unless_improper o (fields_of b)) (Err HeaderField)) t p, cc)
+    by (Some i) p t q = let z : ◌≡◌ {A = ℕ} 0 1 = cc in absurd (omega arith)
+
+pub read-err : (b : List ℕ) (h : Fields) (e : Refusal) → limited_fields b ≡ Ok h → checked_inputs b h ≡ Err e → checked_fields b ≡ Err e
+read-err b h e l q = let t = limited b h l in by (first_improper b) refl t.0 (subst (λ (k : Fields). checked_inputs b k ≡ Err e) t.1 q)
+  where
+    by : (o : Option ℕ) → first_improper b ≡ o → in_limits (fields_of b) ≡ true → unless_improper o (input_rows b (fields_of b).inputs) ≡ Err e
+        → checked_fields b ≡ Err e
+    by None p t r = let z : ◌≡◌ {A = ℕ} 0 1 = cc in absurd (omega arith)
+    by (Some i) p t r = ap₂ (λ k o. cond k (unless_improper o (fields_of b)) (Err HeaderField)) t p ∙ cc
+
+-- the parts of a file that were read, put together
+pub head-read : (file xs : List ℕ) (s : Split) (h : Fields) (rows : List WireRow)
+    → records_of file ≡ Ok xs → header_record (split_record xs) ≡ Ok s → limited_fields s.front ≡ Ok h → checked_inputs s.front h ≡ Ok rows
+    → (Ok (record { header = h; inputs = rows; rest = s.rest }) ≡ head_of file) × (s.rest ≡ drop (24 + 12 * h.inputs) file)
+head-read file xs s h rows p q l e =
+    let r = read-ok s.front h rows l e in
+    let w = record-ok xs s q in
+    let f = ap (λ (k : Fields). k.inputs) (limited s.front h l).1 in (
+      ap (λ i. Ok (record { header = h; inputs = i; rest = s.rest })) r.1 ∙ sym (head_ok file xs s h p q r.0),
+      w.1 ∙ ap (drop (2 + length s.front)) (records-ok file xs p) ∙ drop-drop (2 + length s.front) 1 file ∙ ap (λ k. drop k file) (omega (arith, w.0, f)),
+    )
+
+pub head-err : (file xs : List ℕ) (s : Split) (h : Fields) (e : Refusal)
+    → records_of file ≡ Ok xs → header_record (split_record xs) ≡ Ok s → limited_fields s.front ≡ Ok h → checked_inputs s.front h ≡ Err e
+    → head_of file ≡ Err e
+head-err file xs s h e p q l r =
+    ap (λ o. and_then o (λ ys. and_then (header_record (split_record ys)) head_from)) p
+    ∙ ap (λ o. and_then o head_from) q
+    ∙ ap (λ o. and_then o (λ k. Ok (head_with s k))) (read-err s.front h e l r)

@@ -1,4 +1,5 @@
 pub mod Splits
+pub mod Improper
 pub mod Steps
 pub mod Heads
 pub mod HeadLaws

@@ -41,9 +41,17 @@ proper_input b i = is_proper (fields_of b).word (input_row b i)
 abbrev pub first_improper : List ℕ → Option ℕ
 first_improper b = first_failing (proper_input b) 0 (fields_of b).inputs
 
-abbrev pub unless_improper : Option ℕ → Fields → Result Fields Refusal
-unless_improper None h = Ok h
-unless_improper (Some i) h = Err (InputWire i)
+abbrev pub unless_improper : {A : Type 0} → Option ℕ → A → Result A Refusal
+unless_improper None x = Ok x
+unless_improper (Some i) x = Err (InputWire i)
+
+-- the fields of a header record whose fields are inside their limits
+abbrev pub limited_fields : List ℕ → Result Fields Refusal
+limited_fields b = cond (in_limits (fields_of b)) (Ok (fields_of b)) (Err HeaderField)
+
+-- the rows that a header with these fields counts in its record, if each is a proper wire
+abbrev pub checked_inputs : List ℕ → Fields → Result (List WireRow) Refusal
+checked_inputs b h = unless_improper (first_failing (λ i. is_proper h.word (input_row b i)) 0 h.inputs) (input_rows b h.inputs)
 
 -- the fields of a header record that passes
 abbrev pub checked_fields : List ℕ → Result Fields Refusal
@@ -64,8 +72,3 @@ head_from s = and_then (checked_fields s.front) (λ h. Ok (head_with s h))
 -- The head of a file, or the first refusal: size, version, header length, header field, input.
 abbrev pub head_of : List ℕ → Result Head Refusal
 head_of file = and_then (records_of file) (λ xs. and_then (header_record (split_record xs)) head_from)
-
--- the inputs in front of a lent table, the rest of it as it was; all of it as it was on a refusal
-abbrev pub inputs_over : Result Head Refusal → List WireRow → List WireRow
-inputs_over (Ok h) rows = h.inputs ++ drop (length h.inputs) rows
-inputs_over (Err e) rows = rows

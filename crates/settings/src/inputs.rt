@@ -1,9 +1,9 @@
 // The inputs of a header record as wire rows.
-ghost use Rattle.std.specs.Prelude.{◌≡◌, ◌≤◌, ◌++◌, drop};
+ghost use Rattle.std.specs.Prelude.{◌≡◌, ◌≤◌, not, position};
 ghost use Rattle.fixed.specs.Wire.{is_proper};
-ghost use Rattle.settings.specs.Firsts.{first_failing};
 ghost use Rattle.settings.specs.Head.{input_row, input_rows};
 
+use arrayvec::ArrayVec;
 use fixed::bytes::{i32_at, u32_at};
 use fixed::format::Format;
 use fixed::row::WireRow;
@@ -20,24 +20,21 @@ fn input_row(bytes: &[u8], i: u8) -> WireRow
     }
 }
 
-// The first input that is no proper wire of the format.
-pub(crate) fn first_improper(bytes: &[u8], format: Format, count: u8) -> Option<u8>
-    ensures { result ≡ first_failing (λ i. is_proper format.word (input_row bytes.now i)) 0 count }
+pub(crate) fn inputs_in(bytes: &[u8], count: u8) -> ArrayVec<WireRow, 64>
+    requires { count ≤ 64 }
+    ensures { result.items ≡ input_rows bytes.now count }
 {
+    let mut inputs = ArrayVec::new();
     for i in 0..count {
-        if Wire::new(format, input_row(bytes, i)).is_none() {
-            return Some(i);
-        }
+        inputs.push(input_row(bytes, i));
     }
-    None
+    inputs
 }
 
-// The inputs in front of a lent table, the rest of it as it was.
-pub(crate) fn write_inputs(bytes: &[u8], count: u8, rows: &mut [WireRow; 64])
-    requires { count ≤ 64 }
-    ensures { rows.new ≡ input_rows bytes.now count ++ drop count rows.old }
+// The place of the first row that is no proper wire of the format.
+pub(crate) fn first_improper(format: Format, rows: &[WireRow]) -> Option<usize>
+    ensures { result ≡ position (λ row. not (is_proper format.word row)) rows.now }
 {
-    for i in 0..count {
-        rows[usize::from(i)] = input_row(bytes, i);
-    }
+    rows.iter()
+        .position(|row| Wire::new(format, *row).is_none())
 }

@@ -3,12 +3,6 @@ use crate::refusal::Refusal;
 use fixed::row::WireRow;
 use std::test::Fail;
 
-const NO_ROW: WireRow = WireRow {
-    low: 7,
-    high: 7,
-    error: 7,
-};
-
 // Version 1, a header with one input from -256 to 255, and two bytes of a stage.
 const FILE: [u8; 38] = [
     1, 0, 33, 1, 12, 8, 32, 1, 0, 1, 0, 0, 0, 64, 0, 0, 0, 2, 0, 1, 0, 0, 0, 6, 255, 255, 255, 0,
@@ -17,8 +11,7 @@ const FILE: [u8; 38] = [
 
 // The number of the refusal, or 0 where the head is taken.
 fn number(file: &[u8]) -> u8 {
-    let mut rows = [NO_ROW; 64];
-    match read_head(file, &mut rows) {
+    match read_head(file) {
         Ok(_) => 0,
         Err(refusal) => refusal.number(),
     }
@@ -26,8 +19,7 @@ fn number(file: &[u8]) -> u8 {
 
 #[test]
 fn taken(rt: HostRuntime) -> Result<(), Fail> {
-    let mut rows = [NO_ROW; 64];
-    let Ok(head) = read_head(&FILE, &mut rows) else {
+    let Ok(head) = read_head(&FILE) else {
         assert!(rt; false);
         return Ok(());
     };
@@ -35,16 +27,13 @@ fn taken(rt: HostRuntime) -> Result<(), Fail> {
     assert_eq!(rt; fields.level, 4_194_304);
     assert_eq!(rt; fields.allowed_error, 65_536);
     assert_eq!(rt; (fields.rise, fields.fall, fields.delay), (2, 1, 6));
-    assert_eq!(rt;
-        rows[0],
-        WireRow {
-            low: -256,
-            high: 255,
-            error: 0,
-        }
-    );
-    assert_eq!(rt; rows[1], NO_ROW);
-    assert_eq!(rt; head.rest(&FILE).len(), 2);
+    let input = WireRow {
+        low: -256,
+        high: 255,
+        error: 0,
+    };
+    assert!(rt; head.inputs.as_slice() == [input].as_slice());
+    assert_eq!(rt; head.rest.len(), 2);
     Ok(())
 }
 
