@@ -11,7 +11,7 @@ use Rattle.settings.specs.declared.refusal.Refusal.TheVariants.{CodeCount}
 use Rattle.settings.specs.Firsts.{first_failing}
 use Rattle.settings.proofs.Steps.{first-none}
 use Rattle.verdict.specs.Output.{in_row, first_outside, range_fault, frame_fault}
-use Rattle.verdict.proofs.Outputs.{no-fault-count}
+use Rattle.verdict.proofs.Places.{no-fault-count}
 use Rattle.relay.specs.Truth.{Near}
 
 in-wire : (x : WireRow) (c : ℤ) → in_row x c ≡ true → InWire x c

@@ -4,7 +4,7 @@ use mathlib.Core.List.{cons≢nil}
 use Rattle.stages.specs.Kind.{Kinds, map_ok}
 use Rattle.stages.specs.Containment.{Inside, LawfulSet}
 use Rattle.settings.specs.declared.refusal.Refusal.{Refusal}
-use Rattle.settings.proofs.HeadLaws.{head-law}
+use Rattle.settings.proofs.HeadLaws.{head_law}
 use Rattle.verdict.specs.declared.output.Output.{Output}
 use Rattle.verdict.specs.Loaded.{Loaded, loaded_in}
 use Rattle.verdict.specs.Output.{output_of, output_in}
@@ -54,7 +54,7 @@ loads m law file past s (Ok b) v led =
         file-is = record { head = c.0; bound = b };
         found = loaded-is m file c.0 b c.1 v;
         same-bound = refl;
-        good = record { certified = c.2; sound = (head-law file).accepted c.0 c.1 };
+        good = record { certified = c.2; sound = (head_law file).accepted c.0 c.1 };
         tally = start;
       };
     }

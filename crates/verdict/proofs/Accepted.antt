@@ -67,8 +67,8 @@ loaded-is m file h b e v = ap (loaded_from m) e ∙ ap (with_bound h) (verdict-f
 
 -- no stage of an accepted file is refused
 pub none-refused : (m : Kinds) (file : List ℕ) (h : Head) (b k : ℕ) (d : Refusal) → head_of file ≡ Ok h → verdict_of m file ≡ Ok b → k ≤ h.header.stages
-    → wires_up_to m file k ≡ Err d → ⊥
+    → wires_from m h.header.accumulator h.rest 0 k (inputs_in h) ≡ Err d → ⊥
 none-refused m file h b k d e v le w =
     let p = passes-up-to m h b k (verdict-from m file h b e v) le in
-    let q : ◌≡◌ {A = Result Stand Refusal} (Ok p.0) (Err d) = sym p.1 ∙ sym (up_to m file h k e le) ∙ w in
+    let q : ◌≡◌ {A = Result Stand Refusal} (Ok p.0) (Err d) = sym p.1 ∙ w in
     let z : ◌≡◌ {A = ℕ} 0 1 = cc in omega arith

@@ -1,6 +1,6 @@
 -- A stage that is tried is the stage of an accepted file.
 use Rattle.std.proofs.Common.{◌≡◌, ℕ, ◌+◌, ◌-◌, ◌<◌, ◌≤◌, Bool, true, false, cond, eqb, leb, List, length, ℤ, Ok, Err, Option, Result, sym, refl, ap, ◌∙◌, subst, arith}
-use Rattle.std.proofs.lemmas.Bool.{eq-eqb, le-leb, and_from, cond-true}
+use Rattle.std.proofs.lemmas.Bool.{le-leb, and_from, cond-true}
 use Rattle.fixed.proofs.Chains.{then_ok}
 use Rattle.fixed.specs.Steps.{and_then}
 use Rattle.stages.specs.declared.shape.Shape.{Shape}
@@ -11,25 +11,13 @@ use Rattle.settings.specs.declared.refusal.Refusal.TheVariants.{CodeCount, Short
 use Rattle.settings.specs.Head.{Head, head_of}
 use Rattle.settings.specs.Records.{Split}
 use Rattle.verdict.specs.Stages.{stage_at, wires_past, wires_from}
-use Rattle.verdict.specs.Verdict.{inputs_in, wires_up_to, verdict_from, verdict_of}
+use Rattle.verdict.specs.Verdict.{inputs_in, verdict_from, verdict_of}
 use Rattle.verdict.specs.Certificate.{record_in}
-use Rattle.verdict.specs.Running.{frame, ran, codes_by, frame_past}
+use Rattle.verdict.specs.Running.{ran, codes_by}
 use Rattle.verdict.specs.Bench.{shape_at, is_stage, room_for, bench_of, bench_in}
 use Rattle.verdict.specs.Loaded.{loaded_in}
 use Rattle.verdict.specs.Tried.{unless_refused, tried}
-use Rattle.verdict.proofs.Steps.{wires-more}
-use Rattle.verdict.proofs.Accepted.{wires-split, passes-up-to, shape-at, up_to, verdict-from, loaded-is}
-
--- a refusal of the pass is that of the run, where the stage passes
-pub run-refused : (m : Kinds) (a k : ℕ) (st en : Stand) (cs : List ℤ) (o : Option Split) (e : Refusal) → wires_past m a k st o ≡ Ok en
-    → frame_past m a k (frame st cs) o ≡ Err e → ran (codes_by m a (record_in o) st.shape cs) ≡ Err e
-run-refused m a k st en cs o e w f =
-    let p = sym (ap (λ t. and_then t (λ z. and_then (ran (codes_by m a (record_in o) st.shape cs)) (λ ds. Ok (frame z ds)))) w) ∙ f in
-    by (ran (codes_by m a (record_in o) st.shape cs)) p
-  where
-    by : (r : Result (List ℤ) Refusal) → and_then r (λ ds. Ok (frame en ds)) ≡ Err e → r ≡ Err e
-    by (Ok ds) q = let z : ◌≡◌ {A = ℕ} 0 1 = cc in absurd (omega arith)
-    by (Err d) q = let s : d ≡ e = cc in ap Err s
+use Rattle.verdict.proofs.Accepted.{wires-split, passes-up-to, shape-at, verdict-from, loaded-is}
 
 -- a stage that passes, with room
 pub tried-is : (m : Kinds) (a k : ℕ) (st en : Stand) (cs : List ℤ) (places : ℕ) (o : Option Split) → wires_past m a k st o ≡ Ok en
@@ -42,10 +30,7 @@ tried-is m a k st en cs places o w =
     by true x = refl
     by false x = refl
 
-pub room-is : (before after places : ℕ) (cs : List ℤ) (r : Result (List ℤ) Refusal) → length cs ≡ before → after ≤ places → room_for before after cs places r ≡ r
-room-is before after places cs r n h =
-    cond-true (eqb (length cs) before) _ _ (eq-eqb (length cs) before n) ∙ cond-true (leb after places) _ _ (le-leb after places h)
-
+-- the tried stage is the one that a bench asks for
 pub bench-is : (m : Kinds) (h : Head) (b k : ℕ) (st : Stand) (cs : List ℤ) (places : ℕ) → verdict_from m h ≡ Ok b → k < h.header.stages
     → wires_from m h.header.accumulator h.rest 0 k (inputs_in h) ≡ Ok st
     → tried m h.header.accumulator (k + 1) st cs places (stage_at h.rest k) ≡ bench_of m h (k + 1) cs places
@@ -58,7 +43,7 @@ bench-is m h b k st cs places v lt e =
     sym (ap (λ t. and_then t (wires_from m a h.rest (0 + k) 1)) e) ∙ sym (wires-split m a h.rest 0 k 1 (inputs_in h)) ∙ next.1 in
     let zero-k : 0 + k ≡ k = omega arith in
     let here : wires_from m a h.rest k 1 st ≡ Ok en = subst (λ i. wires_from m a h.rest i 1 st ≡ Ok en) zero-k one in
-    let past = then_ok (wires_past m a (k + 1) st o) (λ t. Ok t) en (sym (wires-more m a h.rest k 1 st (omega arith)) ∙ here) in
+    let past = then_ok (wires_past m a (k + 1) st o) (λ t. Ok t) en here in
     let same : past.0 ≡ en = cc past.2 in
     let passed : wires_past m a (k + 1) st o ≡ Ok en = past.1 ∙ ap Ok same in
     let before : st.shape ≡ shape_at m h k = sym (shape-at m h k st e) in
@@ -72,8 +57,8 @@ bench-is m h b k st cs places v lt e =
     ∙ sym (cond-true (is_stage h (k + 1)) _ _ stage)
 
 pub bench-file : (m : Kinds) (file : List ℕ) (h : Head) (b k stage : ℕ) (st : Stand) (cs : List ℤ) (places : ℕ) → head_of file ≡ Ok h → verdict_of m file ≡ Ok b
-    → k + 1 ≡ stage → stage ≤ h.header.stages → wires_up_to m file k ≡ Ok st
+    → k + 1 ≡ stage → stage ≤ h.header.stages → wires_from m h.header.accumulator h.rest 0 k (inputs_in h) ≡ Ok st
     → tried m h.header.accumulator (k + 1) st cs places (stage_at h.rest k) ≡ bench_in m (loaded_in m file) stage cs places
 bench-file m file h b k stage st cs places e v n le w =
-    bench-is m h b k st cs places (verdict-from m file h b e v) (omega arith) (sym (up_to m file h k e (omega arith)) ∙ w)
+    bench-is m h b k st cs places (verdict-from m file h b e v) (omega arith) w
     ∙ ap (λ j. bench_of m h j cs places) n ∙ sym (ap (λ l. bench_in m l stage cs places) (loaded-is m file h b e v))

@@ -14,7 +14,7 @@ use Rattle.settings.specs.declared.refusal.Refusal.{Refusal}
 use Rattle.settings.specs.declared.refusal.Refusal.TheVariants.{TrailingBytes, OutputCount, AllowedError}
 use Rattle.settings.specs.Head.{Head, head_of}
 use Rattle.settings.specs.HeadLaw.{Sound}
-use Rattle.settings.proofs.HeadLaws.{head-law}
+use Rattle.settings.proofs.HeadLaws.{head_law}
 use Rattle.verdict.specs.Stages.{from_stage, wires_from}
 use Rattle.verdict.specs.Verdict.{inputs_in, ended, bound_in, closed, verdict_from, verdict_of}
 use Rattle.verdict.specs.Certificate.{network_in, output_shape, output_exact, Certified, Certificate}
@@ -80,4 +80,4 @@ certificate m law file (Ok b) p =
     let en = last.0 in
     let checks = closed-ok h.header h.rest en b last.2 in
     let net = through m h.header.accumulator h.rest 0 h.header.stages (inputs_in h) en last.1 in
-    (h, head.1, subst (Certified m h) checks.1 (certified m law h ((head-law file).accepted h head.1) en net checks.0 checks.2))
+    (h, head.1, subst (Certified m h) checks.1 (certified m law h ((head_law file).accepted h head.1) en net checks.0 checks.2))

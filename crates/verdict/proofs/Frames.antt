@@ -1,5 +1,5 @@
 -- Codes along the stages of a file that pass.
-use Rattle.std.proofs.Common.{◌≡◌, ℕ, zero, suc, ◌+◌, ◌-◌, ◌<◌, List, ℤ, Ok, Err, Option, Result, sym, refl, ap, ◌∙◌, arith}
+use Rattle.std.proofs.Common.{◌≡◌, ℕ, zero, suc, ◌+◌, List, ℤ, Ok, Err, Option, Result, sym, refl, ap, ◌∙◌}
 use Rattle.fixed.proofs.Chains.{then_ok}
 use Rattle.fixed.specs.Steps.{and_then}
 use Rattle.stages.specs.declared.shape.Shape.{Shape}
@@ -11,20 +11,6 @@ use Rattle.verdict.specs.Stages.{stage_at, wires_past, wires_from}
 use Rattle.verdict.specs.Certificate.{record_in, records_from}
 use Rattle.verdict.specs.Running.{Frame, frame, ran, codes_by, frame_past, frame_from}
 use Rattle.verdict.proofs.Passed.{past-ok}
-
--- one more stage
-pub frame-more : (m : Kinds) (a : ℕ) (xs : List ℕ) (i n : ℕ) (fr : Frame) → 0 < n
-    → frame_from m a xs i n fr ≡ and_then (frame_past m a (i + 1) fr (stage_at xs i)) (frame_from m a xs (i + 1) (n - 1))
-frame-more m a xs i zero fr h = absurd (omega arith)
-frame-more m a xs i (suc n) fr h =
-    let e : n ≡ suc n - 1 = omega arith in ap (λ j. and_then (frame_past m a (i + 1) fr (stage_at xs i)) (frame_from m a xs (i + 1) j)) e
-
--- a stage that passes, and codes that run
-pub frame-past : (m : Kinds) (a k : ℕ) (st en : Stand) (cs ds : List ℤ) (o : Option Split) → wires_past m a k st o ≡ Ok en
-    → codes_by m a (record_in o) st.shape cs ≡ Ok ds → frame_past m a k (frame st cs) o ≡ Ok (frame en ds)
-frame-past m a k st en cs ds o w r =
-    ap (λ t. and_then t (λ e. and_then (ran (codes_by m a (record_in o) st.shape cs)) (λ zs. Ok (frame e zs)))) w
-    ∙ ap (λ t. and_then (ran t) (λ zs. Ok (frame en zs))) r
 
 -- a stage's wires and what follows, where it passes
 shape-past : (m : Kinds) (a k : ℕ) (st en : Stand) (o : Option Split) → wires_past m a k st o ≡ Ok en

@@ -1,10 +1,8 @@
 -- The inputs of an accepted head.
-use Rattle.std.proofs.Common.{◌≡◌, ℕ, suc, ◌<◌, ◌≤◌, List, [], ◌∷◌, length, get_or, take, Ok, Result, sym, subst, arith}
+use Rattle.std.proofs.Common.{◌≡◌, ℕ, suc, ◌<◌, List, [], ◌∷◌, length, get_or, Ok, sym, arith}
 use Rattle.fixed.specs.Wire.{Proper, no_row}
 use Rattle.fixed.specs.declared.row.WireRow.{WireRow}
 use Rattle.stages.specs.Containment.{AllProper, Stands}
-use Rattle.settings.specs.declared.fields.Fields.{Fields}
-use Rattle.settings.specs.declared.refusal.Refusal.{Refusal}
 use Rattle.settings.specs.Head.{Head, head_of}
 use Rattle.settings.specs.HeadLaw.{Sound, HeadLaw}
 use Rattle.verdict.specs.Verdict.{shape_in}
@@ -21,19 +19,6 @@ inputs-stand h s = record {
   proper = all-proper h.header.word h.inputs (λ i l. s.proper i (omega (arith, s.many)));
 }
 
--- what judging the stages needs, of the fields and the table that reading a head leaves
-pub record Ready (k : Fields) (rows : List WireRow) : Type 0 where
-  pub accumulator : (16 ≤ k.accumulator) × (k.accumulator ≤ 56)
-  pub few : k.stages ≤ 16
-  pub stands : Stands (shape_in k) (take k.inputs rows)
-
-pub ready : (file : List ℕ) (f k : Fields) (rows : List WireRow) (rest : List ℕ) → HeadLaw file
-    → ◌≡◌ {A = Result Head Refusal} (Ok (record { header = f; inputs = take f.inputs rows; rest = rest })) (head_of file) → k ≡ f → Ready k rows
-ready file f k rows rest law e same =
-    let h : Head = record { header = f; inputs = take f.inputs rows; rest = rest } in
-    let sound = law.accepted h (sym e) in
-    subst (λ (j : Fields). Ready j rows) (sym same) (record {
-      accumulator = (sound.words.1, sound.words.2);
-      few = sound.counts.3;
-      stands = inputs-stand h sound;
-    })
+-- the inputs of a head that was opened
+pub opened-stand : (file : List ℕ) (h : Head) → HeadLaw file → Ok h ≡ head_of file → Stands (shape_in h.header) h.inputs
+opened-stand file h law e = inputs-stand h (law.accepted h (sym e))

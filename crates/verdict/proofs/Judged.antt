@@ -1,46 +1,33 @@
--- What a lawful kind leaves in a table.
-use Rattle.std.proofs.Common.{◌≡◌, ℕ, List, length, take, ℤ, Ok, Err, Result, sym, refl, ap, ◌∙◌, subst, arith}
-use Rattle.std.proofs.lemmas.List.{take_at}
-use Rattle.fixed.specs.declared.row.WireRow.{WireRow}
-use Rattle.stages.specs.declared.shape.Shape.{Shape}
-use Rattle.stages.specs.declared.shape.KindRefusal.{KindRefusal}
+-- What a stage answers, as calls tell it.
+use Rattle.std.proofs.Common.{◌≡◌, ℕ, ◌≤◌, List, length, get_or, ℤ, Ok, Err, Result, sym, refl, ap, ◌∙◌, arith}
+use Rattle.fixed.proofs.Chains.{then_ok}
 use Rattle.stages.specs.declared.shape.RunRefusal.{RunRefusal}
-use Rattle.stages.specs.Kind.{Setting, Kind, map_ok, over}
-use Rattle.fixed.specs.Steps.{and_then}
-use Rattle.stages.specs.Network.{stand}
-use Rattle.stages.specs.Containment.{Stands, Given, Lawful}
+use Rattle.stages.specs.Kind.{setting, Kinds, map_ok}
+use Rattle.stages.specs.Network.{kind_in, Stand, stand, wires_after}
+use Rattle.stages.specs.Containment.{Stands, Given, LawfulSet}
+use Rattle.stages.proofs.Networks.{lawful-at}
+use Rattle.settings.specs.declared.refusal.Refusal.{Refusal}
+use Rattle.verdict.specs.Stages.{at_stage}
+use Rattle.verdict.specs.Running.{ran, codes_by}
+use Rattle.verdict.proofs.Passed.{at_ok}
 
 pub map-ok : {A B E : Type 0} (f : A → B) (r : Result A E) (y : B) → ◌≡◌ {A = Result B E} (Ok y) (map_ok f r) → (x : A) × (r ≡ Ok x) × (f x ≡ y)
 map-ok f (Ok x) y e = (x, refl, cc)
 map-ok f (Err d) y e = let z : ◌≡◌ {A = ℕ} 0 1 = cc in absurd (omega arith)
 
-pub map-err : {A B E : Type 0} (f : A → B) (r : Result A E) (d : E) → ◌≡◌ {A = Result B E} (Err d) (map_ok f r) → r ≡ Err d
-map-err f (Ok x) d e = let z : ◌≡◌ {A = ℕ} 0 1 = cc in absurd (omega arith)
-map-err f (Err c) d e = let s : c ≡ d = cc in ap Err s
+ran-ok : {A : Type 0} (r : Result A RunRefusal) (y : A) → ran r ≡ Ok y → r ≡ Ok y
+ran-ok (Ok x) y e = let s : x ≡ y = cc in ap Ok s
+ran-ok (Err d) y e = let z : ◌≡◌ {A = ℕ} 0 1 = cc in absurd (omega arith)
 
--- the wires that a kind gave stand in front of the table
-pub judged-in : (k : Kind) (s : Setting) (xs before out : List WireRow) (after : Shape) → Lawful k → Given s xs
-    → ◌≡◌ {A = Result Shape KindRefusal} (Ok after) (map_ok (λ _. k.after s) (k.wires s xs)) → out ≡ over (k.wires s xs) before
-    → (and_then (k.wires s xs) (λ ys. Ok (stand (k.after s) ys)) ≡ Ok (stand after (take after.count out))) × Stands after (take after.count out)
-judged-in k s xs before out after law given e t =
-    let y = map-ok (λ _. k.after s) (k.wires s xs) after e in
-    let l = law.leads s xs y.0 given y.1 in
-    let many : length y.0 ≡ after.count = l.stands.many ∙ ap (λ (h : Shape). h.count) y.2 in
-    let front : take after.count out ≡ y.0 =
-    ap (take after.count) t ∙ ap (λ r. take after.count (over r before)) y.1 ∙ take_at y.0 _ after.count many in
-    let stands : Stands after y.0 = subst (λ (h : Shape). Stands h y.0) y.2 l.stands in (
-      ap (λ r. and_then r (λ ys. Ok (stand (k.after s) ys))) y.1 ∙ ap (λ (h : Shape). Ok (stand h y.0)) y.2 ∙ ap (λ ys. Ok (stand after ys)) (sym front),
-      subst (Stands after) (sym front) stands,
-    )
-
--- the codes that it ran to stand in front of theirs
-pub ran-in : (k : Kind) (s : Setting) (xs ys : List WireRow) (cs before out : List ℤ) (n : ℕ) (after : Shape) → Lawful k → Given s xs
-    → k.wires s xs ≡ Ok ys → k.after s ≡ after → length cs ≡ s.before.count
-    → ◌≡◌ {A = Result ℕ RunRefusal} (Ok n) (map_ok length (k.code s cs)) → out ≡ over (k.code s cs) before
-    → k.code s cs ≡ Ok (take after.count out)
-ran-in k s xs ys cs before out n after law given w same many e t =
-    let d = map-ok length (k.code s cs) n e in
-    let long : length d.0 ≡ after.count = law.code_counts s xs ys given w cs d.0 many d.1 ∙ ap (λ (h : Shape). h.count) same in
-    let front : take after.count out ≡ d.0 =
-    ap (take after.count) t ∙ ap (λ r. take after.count (over r before)) d.1 ∙ take_at d.0 _ after.count long in
-    d.1 ∙ ap Ok (sym front)
+-- there is a code for each wire after a stage
+pub codes-many : (m : Kinds) → LawfulSet m → (a k : ℕ) (b : List ℕ) (st en : Stand) (cs ds : List ℤ) → 16 ≤ a → a ≤ 56 → Stands st.shape st.wires
+    → ◌≡◌ {A = Result Stand Refusal} (Ok en) (at_stage k (wires_after m a b st)) → length cs ≡ st.shape.count
+    → ◌≡◌ {A = Result (List ℤ) Refusal} (Ok ds) (ran (codes_by m a b st.shape cs)) → length ds ≡ en.shape.count
+codes-many m law a k b st en cs ds g h stands w many r =
+    let s = setting b a st.shape in
+    let kind = kind_in m b in
+    let wires = then_ok (kind.wires s st.wires) (λ ys. Ok (stand (kind.after s) ys)) en (at_ok k (wires_after m a b st) en (sym w)) in
+    let at : stand (kind.after s) wires.0 ≡ en = cc wires.2 in
+    let given : Given s st.wires = record { accumulator_least = g; accumulator_most = h; stands = stands } in
+    (lawful-at (m (get_or b 0 0)) (law (get_or b 0 0))).code_counts s st.wires wires.0 given wires.1 cs ds many (ran-ok _ ds (sym r))
+    ∙ ap (λ (t : Stand). t.shape.count) at

@@ -1,23 +1,20 @@
 -- The pass of a frame is its output, where the file is accepted.
-use Rattle.std.proofs.Common.{◌≡◌, ℕ, Bool, true, false, cond, eqb, List, length, ℤ, Some, None, Ok, Err, Option, Result, sym, refl, ap, ◌∙◌, arith}
-use Rattle.std.proofs.lemmas.Bool.{eqb-true}
+use Rattle.std.proofs.Common.{◌≡◌, ℕ, List, ℤ, Some, None, Ok, Err, Option, Result, sym, refl, ap, ◌∙◌, subst, arith}
 use Rattle.fixed.proofs.Chains.{then_ok}
-use Rattle.fixed.specs.declared.row.WireRow.{WireRow}
 use Rattle.fixed.specs.Steps.{and_then}
 use Rattle.stages.specs.declared.shape.Shape.{Shape}
 use Rattle.stages.specs.declared.shape.RunRefusal.{RunRefusal}
 use Rattle.stages.specs.Kind.{Kinds}
 use Rattle.stages.specs.Network.{Stand}
 use Rattle.settings.specs.declared.refusal.Refusal.{Refusal}
-use Rattle.settings.specs.declared.refusal.Refusal.TheVariants.{CodeCount}
-use Rattle.settings.specs.Head.{Head}
+use Rattle.settings.specs.Head.{Head, head_of}
 use Rattle.verdict.specs.declared.output.Output.{Output}
 use Rattle.verdict.specs.Stages.{wires_from}
 use Rattle.verdict.specs.Verdict.{inputs_in, closed, verdict_from}
 use Rattle.verdict.specs.Certificate.{network_in, output_shape, output_codes}
 use Rattle.verdict.specs.Running.{frame, ran, frame_from}
-use Rattle.verdict.specs.Loaded.{Loaded, with_bound, loaded_from, unless_none}
-use Rattle.verdict.specs.Output.{first_outside, range_fault, frame_fault, output_with, unless_fault, output_in}
+use Rattle.verdict.specs.Loaded.{Loaded, with_bound, loaded_from, loaded_in, unless_none}
+use Rattle.verdict.specs.Output.{frame_fault, output_with, unless_fault, output_in}
 use Rattle.verdict.specs.Pass.{closed_frame, frame_pass}
 use Rattle.verdict.proofs.Passed.{through, shape-through}
 use Rattle.verdict.proofs.Frames.{frames-of, wires-of}
@@ -44,7 +41,7 @@ passing m h cs en (Ok b) r f p q =
     by (Ok ds) s same = ap (λ (t : Shape). Ok (output_with h.header t ds)) same
     by (Err d) s same = refl
 
-pub pass-is-output : (m : Kinds) (h : Head) (cs : List ℤ) → frame_fault h.inputs cs ≡ None
+pass-is-output : (m : Kinds) (h : Head) (cs : List ℤ) → frame_fault h.inputs cs ≡ None
     → output_in m (loaded_from m (Ok h)) cs ≡ settled (loaded_from m (Ok h)) (frame_pass m h.header h.rest (frame (inputs_in h) cs))
 pass-is-output m h cs fault = by (wires_from m a h.rest 0 n (inputs_in h)) refl
   where
@@ -85,7 +82,7 @@ pass-is-output m h cs fault = by (wires_from m a h.rest 0 n (inputs_in h)) refl
             let z : ◌≡◌ {A = ℕ} 0 1 = cc (w, e) in absurd (omega arith)
 
 -- a fault of the codes is told where there is a file
-pub fault-is-output : (m : Kinds) (h : Head) (cs : List ℤ) (e : Refusal) → frame_fault h.inputs cs ≡ Some e
+fault-is-output : (m : Kinds) (h : Head) (cs : List ℤ) (e : Refusal) → frame_fault h.inputs cs ≡ Some e
     → output_in m (loaded_from m (Ok h)) cs ≡ Err (unless_none (loaded_from m (Ok h)) e)
 fault-is-output m h cs e fault = by (verdict_from m h)
   where
@@ -93,10 +90,15 @@ fault-is-output m h cs e fault = by (verdict_from m h)
     by (Ok b) = ap (λ o. unless_fault o (and_then (ran (output_codes m h cs)) (λ ds. Ok (output_with h.header (output_shape m h) ds)))) fault
     by (Err d) = refl
 
--- with no fault there are as many codes as inputs
-pub no-fault-count : (xs : List WireRow) (cs : List ℤ) → frame_fault xs cs ≡ None → length cs ≡ length xs
-no-fault-count xs cs f = by (eqb (length cs) (length xs)) refl f
+-- the pass of a frame, or its fault, settles the output
+pub pass-settles : (m : Kinds) (file : List ℕ) (h : Head) (cs : List ℤ) → Ok h ≡ head_of file
+    → settled (loaded_in m file) (unless_fault (frame_fault h.inputs cs) (frame_pass m h.header h.rest (frame (inputs_in h) cs))) ≡ output_in m (loaded_in m file) cs
+pass-settles m file h cs e =
+    let pass = frame_pass m h.header h.rest (frame (inputs_in h) cs) in
+    subst (λ (o : Result Head Refusal). settled (loaded_from m o) (unless_fault (frame_fault h.inputs cs) pass) ≡ output_in m (loaded_from m o) cs) e
+    (by (frame_fault h.inputs cs) refl)
   where
-    by : (t : Bool) → eqb (length cs) (length xs) ≡ t → cond t (range_fault (first_outside xs cs)) (Some CodeCount) ≡ None → length cs ≡ length xs
-    by true p q = eqb-true (length cs) (length xs) p
-    by false p q = let z : ◌≡◌ {A = ℕ} 0 1 = cc in absurd (omega arith)
+    by : (o : Option Refusal) → frame_fault h.inputs cs ≡ o
+        → settled (loaded_from m (Ok h)) (unless_fault (frame_fault h.inputs cs) (frame_pass m h.header h.rest (frame (inputs_in h) cs))) ≡ output_in m (loaded_from m (Ok h)) cs
+    by None p = ap (λ o. settled (loaded_from m (Ok h)) (unless_fault o (frame_pass m h.header h.rest (frame (inputs_in h) cs)))) p ∙ sym (pass-is-output m h cs p)
+    by (Some r) p = ap (λ o. settled (loaded_from m (Ok h)) (unless_fault o (frame_pass m h.header h.rest (frame (inputs_in h) cs)))) p ∙ sym (fault-is-output m h cs r p)

@@ -9,7 +9,7 @@ use Rattle.settings.specs.Records.{Split}
 use Rattle.verdict.specs.Stages.{stage_at, at_stage, wires_past, wires_from}
 use Rattle.verdict.specs.Certificate.{record_in, records_from, shape_through}
 
-at_ok : {A : Type 0} (k : ℕ) (r : Result A KindRefusal) (y : A) → at_stage k r ≡ Ok y → r ≡ Ok y
+pub at_ok : {A : Type 0} (k : ℕ) (r : Result A KindRefusal) (y : A) → at_stage k r ≡ Ok y → r ≡ Ok y
 at_ok k (Ok x) y e = let s : x ≡ y = cc in ap Ok s
 at_ok k (Err d) y e = let z : ◌≡◌ {A = ℕ} 0 1 = cc in absurd (omega arith)
 

@@ -1,18 +1,29 @@
 -- One turn of a search or a loop, for the definitions that they work out.
-use Rattle.std.proofs.Common.{◌≡◌, ℕ, zero, suc, ◌+◌, ◌-◌, ◌<◌, List, ap, arith}
+use Rattle.std.proofs.Common.{◌≡◌, ℕ, zero, suc, ◌+◌, ◌-◌, ◌<◌, ◌≤◌, List, None, Result, ap, sym, ◌∙◌, subst, ⊎_elim, arith}
+use Rattle.std.proofs.lemmas.Bool.{cases_eq}
 use Rattle.stages.specs.Kind.{Kinds}
 use Rattle.fixed.specs.Steps.{and_then}
 use Rattle.stages.specs.Network.{Stand}
+use Rattle.settings.specs.declared.refusal.Refusal.{Refusal}
+use Rattle.verdict.specs.Running.{Frame, frame_past, frame_from}
 use Rattle.verdict.specs.Stages.{from_stage, rest_of, stage_in, stage_at, wires_past, wires_from}
 
--- a stage by the one before it
-pub stage-more : (xs : List ℕ) (k : ℕ) → 0 < k → from_stage xs k ≡ rest_of (stage_in (from_stage xs (k - 1)))
-stage-more xs zero h = absurd (omega arith)
-stage-more xs (suc k) h = let e : k ≡ suc k - 1 = omega arith in ap (λ j. rest_of (stage_in (from_stage xs j))) e
+-- past a stage that is not there, there is none
+pub none-past : (xs : List ℕ) (i k : ℕ) → i ≤ k → from_stage xs i ≡ None → from_stage xs k ≡ None
+none-past xs i zero h e = let same : i ≡ 0 = omega arith in subst (λ j. from_stage xs j ≡ None) same e
+none-past xs i (suc k) h e = ⊎_elim
+    (λ (same : i ≡ suc k). subst (λ j. from_stage xs j ≡ None) same e)
+    (λ (more : i ≡ suc k → ⊥). ap (λ o. rest_of (stage_in o)) (none-past xs i k (omega arith) e)) (cases_eq i (suc k))
 
--- one more stage
-pub wires-more : (m : Kinds) (a : ℕ) (xs : List ℕ) (i n : ℕ) (st : Stand) → 0 < n
-    → wires_from m a xs i n st ≡ and_then (wires_past m a (i + 1) st (stage_at xs i)) (wires_from m a xs (i + 1) (n - 1))
-wires-more m a xs i zero st h = absurd (omega arith)
-wires-more m a xs i (suc n) st h =
-    let e : n ≡ suc n - 1 = omega arith in ap (λ j. and_then (wires_past m a (i + 1) st (stage_at xs i)) (wires_from m a xs (i + 1) j)) e
+-- one stage more of those that are left, by what it answers
+pub wires-step : (m : Kinds) (a : ℕ) (xs : List ℕ) (k n : ℕ) (st : Stand) (r : Result Stand Refusal) → k < n → r ≡ wires_past m a (k + 1) st (stage_at xs k)
+    → wires_from m a xs k (n - k) st ≡ and_then r (wires_from m a xs (k + 1) (n - (k + 1)))
+wires-step m a xs k n st r h e =
+    let left : n - k ≡ suc (n - (k + 1)) = omega arith in
+    ap (λ j. wires_from m a xs k j st) left ∙ ap (λ o. and_then o (wires_from m a xs (k + 1) (n - (k + 1)))) (sym e)
+
+pub frame-step : (m : Kinds) (a : ℕ) (xs : List ℕ) (k n : ℕ) (fr : Frame) (r : Result Frame Refusal) → k < n → r ≡ frame_past m a (k + 1) fr (stage_at xs k)
+    → frame_from m a xs k (n - k) fr ≡ and_then r (frame_from m a xs (k + 1) (n - (k + 1)))
+frame-step m a xs k n fr r h e =
+    let left : n - k ≡ suc (n - (k + 1)) = omega arith in
+    ap (λ j. frame_from m a xs k j fr) left ∙ ap (λ o. and_then o (frame_from m a xs (k + 1) (n - (k + 1)))) (sym e)

@@ -1,5 +1,6 @@
 pub mod Stages
-pub mod Table
+pub mod Opened
+pub mod Frames
 pub mod Verdict
 pub mod Line
 pub mod Certificate

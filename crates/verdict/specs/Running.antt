@@ -1,7 +1,6 @@
 -- Codes along the stages of a file. Assumes nothing.
-use Rattle.std.specs.Prelude.{ℕ, zero, suc, ◌+◌, List, take, ℤ, Ok, Err, Option, Result}
+use Rattle.std.specs.Prelude.{ℕ, zero, suc, ◌+◌, List, ℤ, Ok, Err, Option, Result}
 use Rattle.fixed.specs.Steps.{and_then}
-use Rattle.fixed.specs.declared.row.WireRow.{WireRow}
 use Rattle.stages.specs.declared.shape.Shape.{Shape}
 use Rattle.stages.specs.declared.shape.RunRefusal.{RunRefusal}
 use Rattle.stages.specs.declared.shape.RunRefusal.TheVariants.{Sum, Output}
@@ -12,7 +11,6 @@ use Rattle.settings.specs.declared.refusal.Refusal.TheVariants.{RunSum, RunOutpu
 use Rattle.settings.specs.Records.{Split}
 use Rattle.verdict.specs.Stages.{stage_at, wires_past}
 use Rattle.verdict.specs.Certificate.{record_in}
-use Rattle.verdict.specs.Table.{in_table}
 
 -- the refusal of a run, as a call tells it
 abbrev pub run_refusal : RunRefusal → Refusal
@@ -44,12 +42,3 @@ frame_past m a k fr o =
 abbrev pub frame_from : Kinds → ℕ → List ℕ → ℕ → ℕ → Frame → Result Frame Refusal
 frame_from m a xs i zero fr = Ok fr
 frame_from m a xs i (suc n) fr = and_then (frame_past m a (i + 1) fr (stage_at xs i)) (frame_from m a xs (i + 1) n)
-
--- wires and codes in front of their tables
-abbrev pub in_tables : Shape → List WireRow → List ℤ → Frame
-in_tables s rows codes = frame (in_table s rows) (take s.count codes)
-
--- an answer together with the tables that hold its wires and codes
-abbrev pub framed : Result Shape Refusal → List WireRow → List ℤ → Result Frame Refusal
-framed (Ok s) rows codes = Ok (in_tables s rows codes)
-framed (Err e) rows codes = Err e

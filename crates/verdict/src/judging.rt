@@ -1,16 +1,21 @@
-// The wires after the stages of a file, in a table.
-ghost use Rattle.std.specs.Prelude.{◌≡◌, ◌+◌, ◌<◌, ◌≤◌, take};
-ghost use Rattle.stages.specs.Containment.{Stands};
-ghost use Rattle.verdict.specs.Stages.{refused_at, stage_at, wires_past, wires_from};
-ghost use Rattle.verdict.specs.Table.{in_table, stood, StandsIn};
+// The wires after the stages of a file.
+ghost use Rattle.std.specs.Prelude.{◌≡◌, ◌+◌, ◌<◌, ◌≤◌};
+ghost use Rattle.stages.specs.Kind.{setting, map_ok};
+ghost use Rattle.stages.specs.Network.{wires_after};
+ghost use Rattle.stages.specs.Wires.{setting_in, wires_in};
+ghost use Rattle.verdict.specs.Stages.{refused_at, at_stage, stage_at, wires_past, wires_from};
+ghost use Rattle.verdict.specs.Verdict.{closed};
 
-use crate::stage::stage_at;
-use fixed::row::WireRow;
+use crate::network::Network;
+use crate::stage::{from_stage, stage_at};
+use fixed::bytes::u8_at;
 use settings::refusal::Refusal;
 use stages::kind_set::KindSet;
 use stages::shape::{KindRefusal, Shape};
+use stages::stage::Stage;
+use stages::wires::Wires;
 
-// The refusal of a kind, at a stage.
+// The refusal of a kind, at a stage. It is no `From`: the stage is not in the kind's refusal.
 fn refused_at(stage: u8, why: KindRefusal) -> Refusal
     ensures { result ≡ refused_at stage why }
 {
@@ -26,62 +31,76 @@ fn refused_at(stage: u8, why: KindRefusal) -> Refusal
     }
 }
 
-// One stage: from the wires in front of the table to those after it, in the same place.
-pub(crate) fn judge_stage<K: KindSet>(
-    kinds: &K,
-    accumulator: u8,
-    records: &[u8],
-    k: u8,
-    before: Shape,
-    table: &mut [WireRow; 64],
-) -> Result<Shape, Refusal>
-    requires accumulator { (16 ≤ accumulator) × (accumulator ≤ 56) }
-    requires few { k < 16 }
-    requires stands { Stands before (take before.count table.old) }
-    ensures value { stood result table.new ≡ wires_past (K.meaning kinds.now) accumulator (k + 1) (in_table before table.old) (stage_at records.now k) }
-    ensures stands { StandsIn result table.new }
-{
-    let Some(split) = stage_at(records, k) else {
-        return Err(Refusal::RecordLength { stage: k + 1 });
-    };
-    let [number, ..] = split.front else {
-        return Err(Refusal::RecordLength { stage: k + 1 });
-    };
-    let rows = *table;
-    match kinds.judge(
-        *number,
-        split.front,
-        accumulator,
-        before,
-        &rows[0..usize::from(before.count)],
-        table,
-    ) {
-        Ok(after) => Ok(after),
-        Err(why) => Err(refused_at(k + 1, why)),
-    }
-}
-
-// All stages, in the table that holds the inputs.
-pub(crate) fn judge_stages<K: KindSet>(
-    kinds: &K,
-    accumulator: u8,
-    records: &[u8],
-    stages: u8,
-    inputs: Shape,
-    table: &mut [WireRow; 64],
-) -> Result<Shape, Refusal>
-    requires accumulator { (16 ≤ accumulator) × (accumulator ≤ 56) }
-    requires few { stages ≤ 16 }
-    requires stands { Stands inputs (take inputs.count table.old) }
-    ensures value { stood result table.new ≡ wires_from (K.meaning kinds.now) accumulator records.now 0 stages (in_table inputs table.old) }
-    ensures stands { StandsIn result table.new }
-{
-    let mut at = inputs;
-    for k in 0..stages {
-        match judge_stage(kinds, accumulator, records, k, at, table) {
-            Ok(next) => at = next,
-            Err(refusal) => return Err(refusal),
+impl Network<'_> {
+    // What a kind is given of a record.
+    pub(crate) fn stage<'b>(&self, bytes: &'b [u8], before: Shape) -> Stage<'b>
+        ensures { setting_in result ≡ setting bytes.now self.now.header.fields.accumulator before }
+    {
+        Stage {
+            bytes,
+            accumulator: self.fields().accumulator,
+            before,
         }
     }
-    Ok(at)
+
+    // One stage, by its record.
+    pub(crate) fn judge_record<K: KindSet>(
+        &self,
+        kinds: &K,
+        k: u8,
+        bytes: &[u8],
+        before: &Wires,
+    ) -> Result<Wires, Refusal>
+        requires { k < 16 }
+        ensures { map_ok wires_in result ≡ at_stage (k + 1) (wires_after (K.meaning kinds.now) self.now.header.fields.accumulator bytes.now (wires_in before.now)) }
+    {
+        let stage = self.stage(bytes, before.shape);
+        kinds
+            .judge(u8_at(bytes, 0), stage, before.rows.as_slice())
+            .map_err(|why| refused_at(k + 1, why))
+    }
+
+    fn judge_stage<K: KindSet>(&self, kinds: &K, k: u8, before: &Wires) -> Result<Wires, Refusal>
+        requires { k < 16 }
+        ensures { map_ok wires_in result ≡ wires_past (K.meaning kinds.now) self.now.header.fields.accumulator (k + 1) (wires_in before.now) (stage_at self.now.records.now k) }
+    {
+        let split = stage_at(self.records(), k).ok_or(Refusal::RecordLength { stage: k + 1 })?;
+        self.judge_record(kinds, k, split.front, before)
+    }
+
+    // The first stages, from the wires of the inputs on.
+    pub(crate) fn judge_stages<K: KindSet>(
+        &self,
+        kinds: &K,
+        stages: u8,
+        inputs: Wires,
+    ) -> Result<Wires, Refusal>
+        requires { stages ≤ 16 }
+        ensures { map_ok wires_in result ≡ wires_from (K.meaning kinds.now) self.now.header.fields.accumulator self.now.records.now 0 stages (wires_in inputs) }
+    {
+        let mut wires = inputs;
+        for k in 0..stages {
+            wires = self.judge_stage(kinds, k, &wires)?;
+        }
+        Ok(wires)
+    }
+
+    // The last checks: no bytes left, one output, and its error within the allowed one.
+    pub(crate) fn close(&self, last: &Wires) -> Result<u32, Refusal>
+        ensures { result ≡ closed self.now.header.fields self.now.records.now (wires_in last.now) }
+    {
+        let fields = self.fields();
+        let stage = fields.stages;
+        let Some([]) = from_stage(self.records(), stage) else {
+            return Err(Refusal::TrailingBytes { stage });
+        };
+        if last.shape.count != 1 {
+            return Err(Refusal::OutputCount { stage });
+        }
+        let bound = last.rows.as_slice()[0].error;
+        if bound > fields.allowed_error {
+            return Err(Refusal::AllowedError { stage });
+        }
+        Ok(bound)
+    }
 }

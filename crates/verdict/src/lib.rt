@@ -3,9 +3,11 @@
 
 pub mod bench;
 pub mod file;
+pub mod frame;
 pub mod judging;
 pub mod line;
 pub mod loaded;
+pub mod network;
 pub mod output;
 pub mod running;
 pub mod stage;

@@ -3,9 +3,8 @@ ghost use Rattle.std.specs.Prelude.{◌≡◌};
 ghost use Rattle.verdict.specs.Loaded.{fields_in, loaded_in, unless_none};
 
 use crate::file::judge_file;
-use crate::wires::NO_ROW;
+use crate::network::opens::open;
 use settings::fields::Fields;
-use settings::head::reads::read_head;
 use settings::refusal::Refusal;
 use stages::kind_set::KindSet;
 
@@ -13,14 +12,9 @@ use stages::kind_set::KindSet;
 pub fn fields_of<K: KindSet>(kinds: &K, file: &[u8]) -> Option<Fields>
     ensures { result ≡ fields_in (loaded_in (K.meaning kinds.now) file.now) }
 {
-    let mut table = [NO_ROW; 64];
-    let Ok(head) = read_head(file, &mut table) else {
-        return None;
-    };
-    match judge_file(kinds, file) {
-        Ok(_) => Some(head.header.fields()),
-        Err(_) => None,
-    }
+    let (network, _) = open(file).ok()?;
+    judge_file(kinds, file).ok()?;
+    Some(network.fields())
 }
 
 // The refusal of a call on a file, or that there is none where the file is not accepted.

@@ -10,30 +10,23 @@ use settings::record::{Record, split_record};
 fn split_stage(bytes: &[u8]) -> Option<Record<'_>>
     ensures { option_map (λ s. record { front = s.front.now; rest = s.rest.now }) result ≡ long_enough (split_record bytes.now) }
 {
-    let split = split_record(bytes)?;
-    if split.front.len() < 2 {
-        None
-    } else {
-        Some(split)
-    }
+    split_record(bytes).filter(|split| split.front.len() >= 2)
 }
 
-// The bytes from the start of a stage on: the search calls itself for the stage before.
+// The bytes from the start of a stage on.
 pub fn from_stage(records: &[u8], k: u8) -> Option<&[u8]>
     ensures { option_map (λ x. x.now) result ≡ from_stage records.now k }
 {
-    if k == 0 {
-        return Some(records);
+    let mut left = records;
+    for passed in 0..k {
+        left = split_stage(left)?.rest;
     }
-    let before = from_stage(records, k - 1)?;
-    let split = split_stage(before)?;
-    Some(split.rest)
+    Some(left)
 }
 
 // The record of a stage.
 pub fn stage_at(records: &[u8], k: u8) -> Option<Record<'_>>
     ensures { option_map (λ s. record { front = s.front.now; rest = s.rest.now }) result ≡ stage_at records.now k }
 {
-    let start = from_stage(records, k)?;
-    split_stage(start)
+    split_stage(from_stage(records, k)?)
 }

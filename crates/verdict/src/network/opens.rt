@@ -1,0 +1,65 @@
+// How a file is opened.
+ghost use Rattle.std.specs.Prelude.{◌≡◌, IfOk};
+ghost use Rattle.std.specs.Result.{result_map_both};
+ghost use Rattle.stages.specs.Kind.{setting};
+ghost use Rattle.stages.specs.Wires.{setting_in};
+ghost use Rattle.settings.specs.Head.{head_of};
+ghost use Rattle.verdict.specs.Opened.{head_in};
+ghost use Rattle.verdict.specs.Verdict.{shape_in};
+
+use super::Network;
+use settings::fields::Fields;
+use settings::head::Head;
+use settings::head::reads::read_head;
+use settings::refusal::Refusal;
+use stages::shape::Shape;
+use stages::stage::Stage;
+use stages::wires::Wires;
+
+fn input_shape(fields: Fields) -> Shape
+    ensures { result ≡ shape_in fields }
+{
+    Shape {
+        count: fields.inputs,
+        word: fields.word,
+        fraction: fields.fraction,
+    }
+}
+
+// The network of a file, and the wires of its inputs.
+pub(crate) fn open(file: &[u8]) -> Result<(Network<'_>, Wires), Refusal>
+    ensures head { result_map_both (λ o. head_in o.0 o.1) (λ e. e) result ≡ head_of file.now }
+    ensures shape { IfOk result (λ o. o.1.shape ≡ shape_in o.0.header.fields) }
+{
+    let Head {
+        header,
+        inputs,
+        rest,
+    } = read_head(file)?;
+    let shape = input_shape(header.fields());
+    let network = Network {
+        header,
+        records: rest,
+    };
+    Ok((
+        network,
+        Wires {
+            shape,
+            rows: inputs,
+        },
+    ))
+}
+
+impl Network<'_> {
+    pub(crate) fn fields(&self) -> Fields
+        ensures { result ≡ self.now.header.fields }
+    {
+        self.header.fields()
+    }
+
+    pub(crate) fn records(&self) -> &[u8]
+        ensures { result.now ≡ self.now.records.now }
+    {
+        self.records
+    }
+}
