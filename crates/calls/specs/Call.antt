@@ -1,5 +1,5 @@
 -- Calls on a relay, and what they answer. Assumes nothing.
-use Rattle.std.specs.Prelude.{ℕ, List, ℤ}
+use Rattle.std.specs.Prelude.{ℕ, List, ℤ, Some, None, Option}
 use Rattle.fixed.specs.Wire.{no_row}
 use Rattle.settings.specs.declared.refusal.Refusal.{Refusal}
 use Rattle.calls.specs.declared.certificate_row.CertificateRow.{CertificateRow}
@@ -14,6 +14,15 @@ pub data Call : Type 0 where
   state : Call
   certificate : ℕ → List CertificateRow → Call  -- stage, and a buffer
   bench : ℕ → List ℤ → List ℤ → Call  -- stage, codes, and a buffer
+
+-- the stage that a call asks about, if it asks about one
+abbrev pub asked_stage : Call → Option ℕ
+asked_stage (load file) = None
+asked_stage (frame zs) = None
+asked_stage reset = None
+asked_stage state = None
+asked_stage (certificate k buffer) = Some k
+asked_stage (bench k zs buffer) = Some k
 
 -- what a call answers
 pub data Answer : Type 0 where

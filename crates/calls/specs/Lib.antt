@@ -1,2 +1,4 @@
 pub mod Call
 pub mod Written
+pub mod Certified
+pub mod Texts

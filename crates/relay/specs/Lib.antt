@@ -1,5 +1,6 @@
 pub mod Certificate
 pub mod Rules
+pub mod Kept
 pub mod Held
 pub mod Ways
 pub mod Past

@@ -1,12 +1,40 @@
 // The memory that a relay keeps its file in.
-ghost use Rattle.std.specs.Prelude.{◌≤◌};
+ghost use Rattle.std.specs.Prelude.{◌≡◌, ◌≤◌, length, None as none};
+ghost use Rattle.std.specs.Option.{option_map};
+ghost use Rattle.relay.specs.Kept.{file_in};
 
-// A fixed memory, and how much of it is in use; nothing where no file was taken.
-#[derive(Clone, Copy)]
+use arrayvec::ArrayVec;
+
+// The bytes of the file that was taken last, in fixed memory; none where no file was taken.
+#[derive(Drop)]
 pub struct Kept {
-    bytes: [u8; 65536],
-    len: usize,
-    ghost few: { len ≤ 65536 },
+    bytes: ArrayVec<u8, 65536>,
 }
 
-pub mod moves;
+impl Kept {
+    pub(crate) fn empty() -> Kept
+        ensures { file_in result.bytes.items ≡ none }
+    {
+        Kept {
+            bytes: ArrayVec::new(),
+        }
+    }
+
+    pub(crate) fn keep(&mut self, file: &[u8])
+        requires { length file.now ≤ 65536 }
+        ensures { self.new.bytes.items ≡ file.now }
+    {
+        self.bytes.clear();
+        self.bytes.try_extend_from_slice(file).unwrap();
+    }
+
+    pub(crate) fn file(&self) -> Option<&[u8]>
+        ensures { option_map (λ x. x.now) result ≡ file_in self.now.bytes.items }
+    {
+        if self.bytes.is_empty() {
+            None
+        } else {
+            Some(self.bytes.as_slice())
+        }
+    }
+}

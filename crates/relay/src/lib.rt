@@ -2,6 +2,6 @@
 #![tactic(auto)]
 
 pub mod certificate;
-pub mod kept;
+mod kept;
 pub mod relay;
 pub mod replay;

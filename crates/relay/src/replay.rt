@@ -13,12 +13,6 @@ use calls::reply::Reply;
 use calls::request::Request;
 use stages::kind_set::KindSet;
 use std::alloc::{AllocError, Global};
-use verdict::wires::NO_ROW;
-
-const NO_CERTIFICATE: CertificateRow = CertificateRow {
-    wire: NO_ROW,
-    bits: 0,
-};
 
 // A certificate, into a fresh buffer.
 fn certificate_reply<K: KindSet>(
@@ -29,7 +23,7 @@ fn certificate_reply<K: KindSet>(
 ) -> Result<Reply, AllocError>
     ensures { IfOk result (λ reply. told_in reply ≡ told_of (K.meaning relay.now.kinds) (held relay.now) (certificate stage (replicate places no_certificate))) }
 {
-    let mut buffer = vec![in heap; NO_CERTIFICATE; usize::from(places)]?;
+    let mut buffer = vec![in heap; CertificateRow::default(); usize::from(places)]?;
     let answer = relay.certificate(stage, buffer.as_mut_slice());
     Ok(Reply::Certificate { answer, buffer })
 }
@@ -90,18 +84,6 @@ fn replies_to<K: KindSet + Drop>(
     Ok(replies)
 }
 
-// The claims hold after each call of the list.
-fn claimed_replies<K: KindSet + Drop>(
-    heap: Global,
-    kinds: K,
-    requests: &[Request],
-) -> Result<Vec<Reply>, AllocError>
-    ensures answers { IfOk result (λ replies. map told_in replies.items ≡ map told_by (reverse (run_on (K.meaning kinds) begun (map call_in requests.now)).events)) }
-    ensures claims { (n : ℕ) → Claims (K.meaning kinds) (run_on (K.meaning kinds) begun (map call_in (take n requests.now))).events (run_on (K.meaning kinds) begun (map call_in (take n requests.now))).state }
-{
-    replies_to(heap, kinds, requests)
-}
-
 // Makes every call on a new relay and gives back what each told. The answers and buffers are the rules', and after each call
 // the claims hold of the calls so far.
 pub fn replay<K: KindSet + Drop>(
@@ -112,5 +94,5 @@ pub fn replay<K: KindSet + Drop>(
     ensures answers { IfOk result (λ replies. map told_in replies.items ≡ map told_by (reverse (run_on (K.meaning kinds) begun (map call_in requests.now)).events)) }
     ensures claims { (n : ℕ) → Claims (K.meaning kinds) (run_on (K.meaning kinds) begun (map call_in (take n requests.now))).events (run_on (K.meaning kinds) begun (map call_in (take n requests.now))).state }
 {
-    claimed_replies(heap, kinds, requests)
+    replies_to(heap, kinds, requests)
 }

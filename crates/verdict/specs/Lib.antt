@@ -10,3 +10,4 @@ pub mod Output
 pub mod Pass
 pub mod Bench
 pub mod Tried
+pub mod Front

@@ -1,5 +1,5 @@
 // One stage of a file on a caller's codes.
-ghost use Rattle.std.specs.Prelude.{◌≡◌, ◌+◌, ◌<◌, ◌≤◌, ◌++◌, length, drop};
+ghost use Rattle.std.specs.Prelude.{◌≡◌, ◌+◌, ◌<◌, length};
 ghost use Rattle.stages.specs.Kind.{map_ok, over};
 ghost use Rattle.stages.specs.Wires.{wires_in};
 ghost use Rattle.verdict.specs.Bench.{bench_in};
@@ -8,22 +8,13 @@ ghost use Rattle.verdict.specs.Tried.{tried};
 ghost use Rattle.verdict.specs.Stages.{stage_at};
 
 use crate::file::judge_file;
+use crate::front::write_front;
 use crate::network::Network;
 use crate::network::opens::open;
 use crate::stage::stage_at;
 use settings::refusal::Refusal;
 use stages::kind_set::KindSet;
 use stages::wires::Wires;
-
-// Codes in front of a buffer, and how many.
-fn write_front(codes: &[i32], out: &mut [i32]) -> usize
-    requires { length codes.now ≤ length out.old }
-    ensures count { result ≡ length codes.now }
-    ensures buffer { out.new ≡ codes.now ++ drop (length codes.now) out.old }
-{
-    out[0..codes.len()].copy_from_slice(codes);
-    codes.len()
-}
 
 // A stage by its record, with the wires that stand before it.
 fn try_stage<K: KindSet>(
@@ -49,7 +40,7 @@ fn try_stage<K: KindSet>(
         return Err(Refusal::ShortBuffer);
     }
     let made = network.run_record(kinds, split.front, before.shape, codes)?;
-    Ok(write_front(made.as_slice(), out))
+    write_front(made.as_slice(), out)
 }
 
 // The codes that a stage, counted from 1, makes of a caller's codes, in front of the buffer, and how many; or the first

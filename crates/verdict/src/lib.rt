@@ -4,6 +4,7 @@
 pub mod bench;
 pub mod file;
 pub mod frame;
+pub mod front;
 pub mod judging;
 pub mod line;
 pub mod loaded;

@@ -34,15 +34,11 @@ impl<K: KindSet> Relay<K> {
         ensures state { held self.new ≡ load_after file.now (verdict_of (K.meaning self.old.kinds) file.now) (held self.old) }
         ensures set { self.new.kinds ≡ self.old.kinds }
     {
-        match judge(&self.kinds, file) {
-            Ok(bound) => {
-                self.kept.keep(file);
-                self.bound = bound;
-                self.status = idle_status();
-                Ok(bound)
-            }
-            Err(refusal) => Err(refusal),
-        }
+        let bound = judge(&self.kinds, file)?;
+        self.kept.keep(file);
+        self.bound = bound;
+        self.status = idle_status();
+        Ok(bound)
     }
 
     // Works out the output code of a frame and counts.
@@ -51,18 +47,11 @@ impl<K: KindSet> Relay<K> {
         ensures state { held self.new ≡ with_status (frame_answer (K.meaning self.old.kinds) (held self.old) codes.now) (held self.old) }
         ensures set { self.new.kinds ≡ self.old.kinds }
     {
-        let kept = self.kept;
-        let Some(file) = kept.file() else {
-            return Err(Refusal::NoFile);
-        };
-        match output_of(&self.kinds, file, codes) {
-            Ok(output) => {
-                let status = step(output, self.status);
-                self.status = status;
-                Ok(status)
-            }
-            Err(refusal) => Err(refusal),
-        }
+        let file = self.kept.file().ok_or(Refusal::NoFile)?;
+        let output = output_of(&self.kinds, file, codes)?;
+        let status = step(output, self.status);
+        self.status = status;
+        Ok(status)
     }
 
     // Sets the count to 0 and clears the trip; the last code and whether it was picked stay.
@@ -71,9 +60,7 @@ impl<K: KindSet> Relay<K> {
         ensures state { held self.new ≡ with_status (reset_answer (held self.old)) (held self.old) }
         ensures set { self.new.kinds ≡ self.old.kinds }
     {
-        if self.kept.file().is_none() {
-            return Err(Refusal::NoFile);
-        }
+        self.kept.file().ok_or(Refusal::NoFile)?;
         self.status.count = 0;
         self.status.trip = false;
         Ok(())

@@ -19,9 +19,7 @@ impl<K: KindSet> Relay<K> {
     fn report(&self) -> Result<Report, Refusal>
         ensures { result ≡ state_answer (held self.now) }
     {
-        if self.kept.file().is_none() {
-            return Err(Refusal::NoFile);
-        }
+        self.kept.file().ok_or(Refusal::NoFile)?;
         Ok(Report {
             bound: self.bound,
             status: self.status,
@@ -42,10 +40,7 @@ impl<K: KindSet> Relay<K> {
         ensures answer { result ≡ map_ok length (certificate_rows (K.meaning self.now.kinds) (held self.now) stage (length out.old)) }
         ensures buffer { out.new ≡ over (certificate_rows (K.meaning self.now.kinds) (held self.now) stage (length out.old)) out.old }
     {
-        let kept = self.kept;
-        let Some(file) = kept.file() else {
-            return Err(Refusal::NoFile);
-        };
+        let file = self.kept.file().ok_or(Refusal::NoFile)?;
         certificate_of(&self.kinds, file, stage, out)
     }
 
@@ -54,10 +49,7 @@ impl<K: KindSet> Relay<K> {
         ensures answer { result ≡ map_ok length (bench_codes (K.meaning self.now.kinds) (held self.now) stage codes.now (length out.old)) }
         ensures buffer { out.new ≡ over (bench_codes (K.meaning self.now.kinds) (held self.now) stage codes.now (length out.old)) out.old }
     {
-        let kept = self.kept;
-        let Some(file) = kept.file() else {
-            return Err(Refusal::NoFile);
-        };
+        let file = self.kept.file().ok_or(Refusal::NoFile)?;
         bench_of(&self.kinds, file, stage, codes, out)
     }
 }

@@ -2,7 +2,7 @@ use Rattle.std.proofs.Common.{map, take}
 use Rattle.calls.specs.Written.{call_in}
 use Rattle.relay.specs.Ways.{new, begun}
 use Rattle.relay.proofs.Stand.{claims-stand, run-way}
-use Rattle.relay.proofs.replay.claimed_replies.Goals as goal
+use Rattle.relay.proofs.replay.replay.Goals as goal
 
 pub returns : goal.returns
 returns g c =
