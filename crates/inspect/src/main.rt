@@ -3,14 +3,20 @@
 
 mod account;
 mod decimals;
+mod fields;
+mod inputs;
 
 use account::account as account_of;
-use console::read_bounded;
+use console::answer;
 use settings::head::reads::MOST_BYTES;
 use std::io;
 
 fn main(rt: HostRuntime) -> io::Result<()> {
-    let file = read_bounded(&rt, MOST_BYTES as u32)?;
-    let text = account_of(rt.alloc(), &file)?;
-    print!(rt; "{text}")
+    answer(
+        rt.alloc(),
+        rt.stdin(),
+        &mut rt.stdout(),
+        MOST_BYTES as u32,
+        |file| account_of(rt.alloc(), file),
+    )
 }
