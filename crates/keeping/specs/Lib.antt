@@ -1,9 +1,9 @@
+pub mod Along
 pub mod Lists
 pub mod Signals
 pub mod Keeping
 pub mod Laws
 pub mod Kept
 pub mod Owed
-pub mod Steps
-pub mod Pools
+pub mod Counts
 pub mod Bounds

@@ -1,60 +1,34 @@
 // Kind 3: the largest of each block of inputs.
 ghost use Rattle.std.specs.Prelude.{◌≡◌};
-ghost use Rattle.keeping.specs.Keeping.{largest_within, largest_set, largest};
-ghost use Rattle.stages.proofs.Sets.{only-lawful};
-ghost use Rattle.keeping.specs.Kept.{lawful-keeping};
+ghost use Rattle.keeping.specs.Lists.{pooled};
+ghost use Rattle.keeping.specs.Keeping.{largest_within, largest_outputs};
 ghost use Rattle.keeping.specs.Owed.{keeps-largest};
 
 use crate::lists::pool;
-use crate::record::{check_record, keep_format, size_of};
-use fixed::row::WireRow;
-use stages::kind_set::KindSet;
-use stages::shape::{KindRefusal, RunRefusal, Shape};
-
-const NUMBER: u8 = 3;
+use crate::operation::{Operation, Outputs};
+use crate::signal::Signal;
 
 #[derive(Clone, Copy)]
 pub struct Largest;
 
-fn within(size: u8) -> bool
-    ensures { result ≡ largest_within size }
-{
-    2 <= size && size <= 64
-}
+impl Operation for Largest {
+    ghost NUMBER = { 3 };
 
-impl KindSet for Largest {
-    ghost meaning = { λ _. largest_set };
+    ghost within = { λ p n. largest_within p };
 
-    ghost lawful = { λ s. only-lawful 3 largest (lawful-keeping keeps-largest) };
+    ghost count = { largest_outputs };
 
-    fn knows(&self, number: u8) -> bool {
-        number == NUMBER
+    ghost outputs = { λ larger rectified. pooled larger };
+
+    ghost keeps = { keeps-largest };
+
+    const NUMBER: u8 = 3;
+
+    fn within(&self, size: u8, _inputs: u8) -> bool {
+        2 <= size && size <= 64
     }
 
-    fn judge(
-        &self,
-        number: u8,
-        bytes: &[u8],
-        accumulator: u8,
-        before: Shape,
-        rows: &[WireRow],
-        out: &mut [WireRow; 64],
-    ) -> Result<Shape, KindRefusal> {
-        let size = size_of(bytes);
-        check_record(number == NUMBER, within(size), bytes)?;
-        let count = pool(size, rows, out);
-        Ok(keep_format(count, before))
-    }
-
-    fn run(
-        &self,
-        number: u8,
-        bytes: &[u8],
-        accumulator: u8,
-        before: Shape,
-        codes: &[i32],
-        out: &mut [i32; 64],
-    ) -> Result<usize, RunRefusal> {
-        Ok(pool(size_of(bytes), codes, out))
+    fn outputs<T: Signal>(&self, size: u8, from: &[T]) -> Outputs<T> {
+        pool(size, from)
     }
 }

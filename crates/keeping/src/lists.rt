@@ -1,73 +1,56 @@
-// What the kinds do to a list. The outputs stand in front of a lent table, the rest of which stays as it was; the answer is
-// how many there are.
-ghost use Rattle.std.specs.Prelude.{◌≡◌, ◌+◌, ◌*◌, ◌≤◌, ◌++◌, map, length, take, drop, replicate};
-ghost use Rattle.keeping.specs.Keeping.{largest_outputs};
+// What the kinds do to a list.
+ghost use Rattle.std.specs.Prelude.{◌≡◌, ◌*◌, ◌≤◌, map, length};
+ghost use Rattle.std.specs.List.{reduce};
 ghost use Rattle.keeping.specs.Lists.{pooled, repeated};
 
+use crate::operation::Outputs;
 use crate::signal::Signal;
 
-// The largest of each block of `size`. A block is written when the next one begins, and the last one at the end.
-pub(crate) fn pool<T: Signal>(size: u8, from: &[T], out: &mut [T]) -> usize
-    requires size { 1 ≤ size }
-    requires some { 1 ≤ length from.now }
-    requires room { length from.now ≤ length out.old }
-    ensures count { result ≡ length (pooled T.Signal.larger size from.now) }
-    ensures outputs { result ≡ largest_outputs size (length from.now) }
-    ensures few { result ≤ length from.now }
-    ensures table { out.new ≡ pooled T.Signal.larger size from.now ++ drop result out.old }
+// The largest element of a block, if it has any.
+fn largest_of<T: Signal>(block: &[T]) -> Option<T>
+    ensures { result ≡ reduce T.larger block.now }
 {
-    let mut largest = from[0];
-    let mut left = size - 1;
-    let mut made = 0;
-    for i in 1..from.len() {
-        if left == 0 {
-            out[made] = largest;
-            made += 1;
-            largest = from[i];
-            left = size - 1;
-        } else {
-            largest = largest.larger_of(from[i]);
-            left -= 1;
+    block.iter().copied().reduce(T::larger_of)
+}
+
+// The largest of each block of `size`.
+pub(crate) fn pool<T: Signal>(size: u8, from: &[T]) -> Outputs<T>
+    requires size { 1 ≤ size }
+    requires few { length from.now ≤ 64 }
+    ensures { result.items ≡ pooled T.larger size from.now }
+{
+    let mut out = Outputs::new();
+    for block in from.chunks(usize::from(size)) {
+        if let Some(largest) = largest_of(block) {
+            out.push(largest);
         }
     }
-    out[made] = largest;
-    made + 1
+    out
 }
 
 // Each element without its negative part.
-pub(crate) fn rectify<T: Signal>(from: &[T], out: &mut [T]) -> usize
-    requires { length from.now ≤ length out.old }
-    ensures count { result ≡ length (map T.Signal.rectified from.now) }
-    ensures outputs { result ≡ length from.now }
-    ensures table { out.new ≡ map T.Signal.rectified from.now ++ drop result out.old }
+pub(crate) fn rectify<T: Signal>(from: &[T]) -> Outputs<T>
+    requires { length from.now ≤ 64 }
+    ensures { result.items ≡ map T.rectified from.now }
 {
-    for i in 0..from.len() {
-        out[i] = from[i].rectify();
+    let mut out = Outputs::new();
+    for x in from {
+        out.push(x.rectify());
     }
-    from.len()
-}
-
-// Writes `count` times `value` from `start` on.
-fn copies<T: Copy>(value: T, start: usize, count: u8, out: &mut [T])
-    requires { start + count ≤ length out.old }
-    ensures { out.new ≡ take start out.old ++ (replicate count value ++ drop (start + count) out.old) }
-{
-    for i in 0..count {
-        out[start + usize::from(i)] = value;
-    }
+    out
 }
 
 // Each element `times` times in a row.
-pub(crate) fn repeat<T: Copy>(times: u8, from: &[T], out: &mut [T]) -> usize
-    requires { length from.now * times ≤ length out.old }
-    ensures count { result ≡ length (repeated times from.now) }
-    ensures outputs { result ≡ length from.now * times }
-    ensures table { out.new ≡ repeated times from.now ++ drop result out.old }
+#[tactic(auto, using(crate::proofs::Loops::repeat_room, crate::proofs::Loops::repeated_more))]
+pub(crate) fn repeat<T: Signal>(times: u8, from: &[T]) -> Outputs<T>
+    requires { length from.now * times ≤ 64 }
+    ensures { result.items ≡ repeated times from.now }
 {
-    let mut made = 0;
-    for i in 0..from.len() {
-        copies(from[i], made, times, out);
-        made += usize::from(times);
+    let mut out = Outputs::new();
+    for &x in from {
+        for _ in 0..times {
+            out.push(x);
+        }
     }
-    made
+    out
 }

@@ -1,52 +1,32 @@
 // Kind 4: negative signals become 0.
-ghost use Rattle.keeping.specs.Keeping.{rectifier_set, rectifier};
-ghost use Rattle.stages.proofs.Sets.{only-lawful};
-ghost use Rattle.keeping.specs.Kept.{lawful-keeping};
+ghost use Rattle.std.specs.Prelude.{◌≡◌, map, nat_eq};
 ghost use Rattle.keeping.specs.Owed.{keeps-rectifier};
 
 use crate::lists::rectify;
-use crate::record::{check_record, keep_format, size_of};
-use fixed::row::WireRow;
-use stages::kind_set::KindSet;
-use stages::shape::{KindRefusal, RunRefusal, Shape};
-
-const NUMBER: u8 = 4;
+use crate::operation::{Operation, Outputs};
+use crate::signal::Signal;
 
 #[derive(Clone, Copy)]
 pub struct Rectifier;
 
-impl KindSet for Rectifier {
-    ghost meaning = { λ _. rectifier_set };
+impl Operation for Rectifier {
+    ghost NUMBER = { 4 };
 
-    ghost lawful = { λ s. only-lawful 4 rectifier (lawful-keeping keeps-rectifier) };
+    ghost within = { λ p n. nat_eq p 0 };
 
-    fn knows(&self, number: u8) -> bool {
-        number == NUMBER
+    ghost count = { λ p n. n };
+
+    ghost outputs = { λ larger rectified p. map rectified };
+
+    ghost keeps = { keeps-rectifier };
+
+    const NUMBER: u8 = 4;
+
+    fn within(&self, size: u8, _inputs: u8) -> bool {
+        size == 0
     }
 
-    fn judge(
-        &self,
-        number: u8,
-        bytes: &[u8],
-        accumulator: u8,
-        before: Shape,
-        rows: &[WireRow],
-        out: &mut [WireRow; 64],
-    ) -> Result<Shape, KindRefusal> {
-        check_record(number == NUMBER, size_of(bytes) == 0, bytes)?;
-        let count = rectify(rows, out);
-        Ok(keep_format(count, before))
-    }
-
-    fn run(
-        &self,
-        number: u8,
-        bytes: &[u8],
-        accumulator: u8,
-        before: Shape,
-        codes: &[i32],
-        out: &mut [i32; 64],
-    ) -> Result<usize, RunRefusal> {
-        Ok(rectify(codes, out))
+    fn outputs<T: Signal>(&self, _size: u8, from: &[T]) -> Outputs<T> {
+        rectify(from)
     }
 }

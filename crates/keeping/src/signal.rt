@@ -5,7 +5,7 @@ ghost use Rattle.keeping.specs.Signals.{rectified as rectified_code, larger_row,
 
 use fixed::row::WireRow;
 
-pub trait Signal: Copy {
+pub trait Signal: Copy + Default {
     ghost larger: { Self → Self → Self };
 
     ghost rectified: { Self → Self };

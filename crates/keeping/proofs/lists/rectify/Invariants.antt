@@ -1,5 +1,5 @@
-use Rattle.std.proofs.Common.{◌≡◌, ◌++◌, map, take, drop}
+use Rattle.std.proofs.Common.{◌≡◌, map, take}
 use Rattle.keeping.proofs.lists.rectify.Given as goal
 
-abbrev pub invariant-loop-i : goal.invariant-loop-i
-invariant-loop-i g l = l.out ≡ map g.T.Signal.rectified (take l.i l.from) ++ drop l.i l.initial.out
+abbrev pub invariant-loop-x : goal.invariant-loop-x
+invariant-loop-x g l = l.out.items ≡ map g.T.Signal.rectified (take l.x-index l.from)

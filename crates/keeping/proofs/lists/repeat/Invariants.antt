@@ -1,7 +1,9 @@
-use Rattle.std.proofs.Common.{◌≡◌, ◌*◌, ◌++◌, take, drop}
+use Rattle.std.proofs.Common.{◌≡◌, ◌++◌, take, replicate}
 use Rattle.keeping.specs.Lists.{repeated}
 use Rattle.keeping.proofs.lists.repeat.Given as goal
 
-abbrev pub invariant-loop-i : goal.invariant-loop-i
-invariant-loop-i g l =
-    (l.made ≡ l.i * l.times) × (l.out ≡ repeated l.times (take l.i l.from) ++ drop l.made l.initial.out)
+abbrev pub invariant-loop : goal.invariant-loop
+invariant-loop g l = l.out.items ≡ repeated l.times (take l.x-index l.from) ++ replicate l.counter l.x
+
+abbrev pub invariant-loop-x : goal.invariant-loop-x
+invariant-loop-x g l = l.out.items ≡ repeated l.times (take l.x-index l.from)
