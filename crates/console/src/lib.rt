@@ -13,7 +13,7 @@ use std::io::{Read, Write};
 mod tests;
 
 // At most one byte more than there may be: what is longer is seen to be, and is not read whole.
-fn read_at_most<R: Read + Drop>(heap: Global, input: R, most: u32) -> io::Result<Vec<u8>>
+pub fn read_bounded<R: Read + Drop>(heap: Global, input: R, most: u32) -> io::Result<Vec<u8>>
     ensures bound { IfOk result (λ v. vec_len v ≤ most + 1) }
     ensures bytes { IfSome (R.remaining input) (λ all. IfOk result (λ v. v.items ≡ take (most + 1) all)) }
 {
@@ -23,12 +23,6 @@ fn read_at_most<R: Read + Drop>(heap: Global, input: R, most: u32) -> io::Result
     // Tried without, and the bound does not prove: of a reader whose bytes are not known `read_to_end` promises none.
     bytes.truncate(most as usize + 1);
     Ok(bytes)
-}
-
-pub fn read_bounded(rt: &HostRuntime, most: u32) -> io::Result<Vec<u8>>
-    ensures { IfOk result (λ v. vec_len v ≤ most + 1) }
-{
-    read_at_most(rt.alloc(), rt.stdin(), most)
 }
 
 // Writes what is told of the input, of which at most one byte more than there may be is read.
@@ -44,7 +38,7 @@ pub fn answer<R: Read + Drop, W: Write, F: FnOnce(&[u8]) -> Result<String, Alloc
         × IfSome (R.remaining input) (λ all. bytes ≡ take (most + 1) all)
         × FnOnceReturnsAt F.FnOnce told bytes (Ok text) × Appends (W.contents output.old) (W.contents output.new) (string_bytes text)) }
 {
-    let bytes = read_at_most(heap, input, most)?;
+    let bytes = read_bounded(heap, input, most)?;
     let text = told(&bytes)?;
     output.write_all(text.as_bytes())
 }

@@ -1,15 +1,17 @@
 // The program `commission`, for the calls of the second evaluator.
+// A program of its own, though it does the same: a program is tested on one script, and `commission` has the account.
 #![tactic(auto)]
 
-use console::read_bounded;
-use session::session_text;
+use console::answer;
+use session::{MOST_BYTES, session_text};
 use std::io;
 
-// The longest script in bytes.
-const MOST_BYTES: u32 = 1 << 30;
-
 fn main(rt: HostRuntime) -> io::Result<()> {
-    let script = read_bounded(&rt, MOST_BYTES)?;
-    let text = session_text(rt.alloc(), &script)?;
-    print!(rt; "{text}")
+    answer(
+        rt.alloc(),
+        rt.stdin(),
+        &mut rt.stdout(),
+        MOST_BYTES,
+        |script| session_text(rt.alloc(), script),
+    )
 }

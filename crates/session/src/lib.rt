@@ -13,8 +13,11 @@ use script::account::account;
 use script::script_text::read_script;
 use std::alloc::{AllocError, Global};
 
-// The script read, run and told.
-fn run_script(heap: Global, text: &[u8]) -> Result<String, AllocError>
+// The longest script in bytes.
+pub const MOST_BYTES: u32 = 1 << 30;
+
+// What is printed of a script: a block for each line. After each of its calls the claims hold of the calls so far.
+pub fn session_text(heap: Global, text: &[u8]) -> Result<String, AllocError>
     ensures text { IfOk result (λ s. string_bytes s ≡ session_text text.now) }
     ensures claims { OnOk result (((n : ℕ) → Claims base_kinds (run_on base_kinds begun (take n (calls_in text.now))).events (run_on base_kinds begun (take n (calls_in text.now))).state)) }
 {
@@ -27,12 +30,4 @@ fn run_script(heap: Global, text: &[u8]) -> Result<String, AllocError>
         requests,
         replies.as_slice(),
     )
-}
-
-// What is printed of a script: a block for each line. After each of its calls the claims hold of the calls so far.
-pub fn session_text(heap: Global, text: &[u8]) -> Result<String, AllocError>
-    ensures text { IfOk result (λ s. string_bytes s ≡ session_text text.now) }
-    ensures claims { OnOk result (((n : ℕ) → Claims base_kinds (run_on base_kinds begun (take n (calls_in text.now))).events (run_on base_kinds begun (take n (calls_in text.now))).state)) }
-{
-    run_script(heap, text)
 }

@@ -8,7 +8,7 @@ use Rattle.relay.specs.Ways.{begun, run_on}
 use Rattle.script.specs.Account.{account_text}
 use Rattle.script.specs.Scripts.{lines_of, flags_of}
 use Rattle.session.specs.Session.{calls_in, told_for, session_text}
-use Rattle.session.proofs.run_script.Goals as goal
+use Rattle.session.proofs.session_text.Goals as goal
 
 -- what holds anyway holds of what is made
 made-since : {A E : Type 0} (r : Result A E) (P : Type 0) → P → IfOk r (λ _. P)
