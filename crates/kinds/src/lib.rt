@@ -5,34 +5,36 @@ ghost use Rattle.std.specs.Prelude.{◌≡◌, is_some};
 ghost use Rattle.stages.specs.Network.{NetworkLaw};
 ghost use Rattle.kinds.specs.Base.{base_kinds};
 
+use keeping::kind::Keeping;
 use keeping::largest::Largest;
 use keeping::rectifier::Rectifier;
 use keeping::repeat::Repeat;
 use rows::full::Full;
+use rows::kind::Rows;
 use rows::taps::Taps;
 use stages::kind_set::KindSet;
 use stages::network::network_law;
 use stages::pair::Pair;
 
 // Kinds 1 and 2, which multiply.
-pub type Multiplying = Pair<Full, Taps>;
+pub type Multiplying = Pair<Rows<Full>, Rows<Taps>>;
 
 // Kinds 3 to 5, which keep the format.
-pub type Keeping = Pair<Largest, Pair<Rectifier, Repeat>>;
+pub type FormatKeeping = Pair<Keeping<Largest>, Pair<Keeping<Rectifier>, Keeping<Repeat>>>;
 
 // All five.
-pub type Base = Pair<Multiplying, Keeping>;
+pub type Base = Pair<Multiplying, FormatKeeping>;
 
 pub const BASE: Base = Pair {
     first: Pair {
-        first: Full,
-        second: Taps,
+        first: Rows(Full),
+        second: Rows(Taps),
     },
     second: Pair {
-        first: Largest,
+        first: Keeping(Largest),
         second: Pair {
-            first: Rectifier,
-            second: Repeat,
+            first: Keeping(Rectifier),
+            second: Keeping(Repeat),
         },
     },
 };

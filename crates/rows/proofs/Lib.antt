@@ -1,2 +1,4 @@
 pub mod Walks
+pub mod Codes
+pub mod Units
 pub mod Fields

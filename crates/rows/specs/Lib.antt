@@ -10,8 +10,5 @@ pub mod Outputs
 pub mod RowLaw
 pub mod Sizes
 pub mod Nearness
-pub mod Remainders
 pub mod Ranges
-pub mod RowWires
 pub mod Windows
-pub mod Plans

@@ -1,11 +1,9 @@
 -- Integers that lie near each other.
 use Rattle.std.specs.Prelude.{◌≡◌, ℕ, suc, ◌+◌, ◌-◌, ◌*◌, ◌^◌, ◌≤◌, ℤ, pos, negsuc, ◌+ℤ◌, ◌-ℤ◌, ◌*ℤ◌, unsigned_abs, refl}
-use Rattle.std.proofs.Common.{ap, arith, mod-lt, mul-le-mul_right, pow_pos}
+use Rattle.std.proofs.Common.{ap, arith, div-add-mod', mod-lt, mul-le-mul_right, pow_pos}
 use Rattle.std.proofs.Math.IntN.{*ℤ_comm}
 use borrow.Author.Differences.{ints, up, down, same_in, product_is, sum_is_lem}
-use Rattle.std.proofs.lemmas.Bool.{lt-leb}
 use Rattle.rows.specs.Row.{remainder}
-use Rattle.rows.specs.Remainders.{remainder-above, remainder-below}
 
 -- y is at most n from z
 abbrev pub Near : ℕ → ℤ → ℤ → Type 0
@@ -44,9 +42,8 @@ near_times y v w h = let k = near_by v w y h in rw (*ℤ_comm y v, *ℤ_comm y w
 
 -- a number is near its floor
 pub remainder-most : (z : ℤ) (k : ℕ) → remainder z k ≤ 2 ^ k - 1
-remainder-most (pos a) k =
-    omega (arith, remainder-above (pos a) k (lt-leb (suc a) 0 (omega arith)), mod-lt a (pow_pos k))
-remainder-most (negsuc a) k = omega (arith, remainder-below (negsuc a) k refl)
+remainder-most (pos a) k = let e = div-add-mod' a (2 ^ k) in let l = mod-lt a (pow_pos k) in omega (arith, ints)
+remainder-most (negsuc a) k = let e = div-add-mod' a (2 ^ k) in let l = mod-lt a (pow_pos k) in omega (arith, ints)
 
 -- the parts of a product, for `simp`
 up-times : (y z : ℤ) → up (y *ℤ z) ≡ up y * up z + down y * down z

@@ -66,6 +66,10 @@ shifted s o (Some z) = cond (fits_word s.wy (floor_shift z (dropped s))) (Ok (fl
 abbrev pub row_code : Scales → ℕ → List ℤ → ℤ → List ℤ → Result ℤ RunRefusal
 row_code s o ws b xs = shifted s o (code_sum s ws b xs)
 
+-- the ends of a range that fits the output word
+abbrev pub ends_of : Scales → SumRange → Option (ℤ × ℤ)
+ends_of s r = cond (range_fits s.wy (range_shift r (dropped s))) (Some ((range_shift r (dropped s)).low, (range_shift r (dropped s)).high)) None
+
 -- the wire of row o by the range of its sum: output word, then error
 abbrev pub wired : Scales → ℕ → ℕ → Option SumRange → Result WireRow KindRefusal
 wired s o e None = Err (RangeSum o)

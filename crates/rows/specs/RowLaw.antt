@@ -3,7 +3,7 @@ use Rattle.std.specs.Prelude.{◌≡◌, ℕ, ◌+◌, ◌-◌, ◌*◌, ◌/◌
 use Rattle.std.proofs.Common.{ap, sym, subst, ◌∙◌, arith, mul-le-mul_left, mul-le-mul_right, le_trans, div-add-mod', mod-lt, lit<, pow-add, pow_pos}
 use Rattle.std.proofs.Math.IntN.{+ℤ_comm}
 use Rattle.std.specs.Int.Signed.{≤ℤ_refl}
-use Rattle.std.proofs.lemmas.Int.{ints}
+use Rattle.std.proofs.lemmas.Int.{ints, unsigned_abs-mul}
 use Rattle.std.proofs.lemmas.Bool.{and_parts, leb-true}
 use Rattle.fixed.specs.Floor.{floor_shift}
 use Rattle.fixed.specs.Word.{fits_word}
@@ -15,10 +15,8 @@ use Rattle.rows.specs.declared.scales.Scales.{Scales}
 use Rattle.rows.specs.Scales.{dropped}
 use Rattle.rows.specs.Range.{range_fits, range_shift}
 use Rattle.rows.specs.Row.{weight_code, weight_codes, bias_code, code_sum, range_sum, remainder, reach, spread, row_error, shifted, row_code, wired, row_wire, dot, row_exact, all_fit}
-use Rattle.rows.specs.Sizes.{abs-mul}
 use Rattle.rows.specs.Nearness.{Near, near-trans, near-plus, near_by, near_times, remainder-most, scale-product, scale-sum, scale-twice}
 use Rattle.rows.specs.Ranges.{InRange, in-fits, in_shift, walk-sum, walk-in, lows-inside}
-use Rattle.rows.specs.RowWires.{wire_with}
 
 -- what a row owes where its wire is y
 pub record RowLeads (s : Scales) (ws : List ℤ) (b : ℤ) (xs : List WireRow) (y : WireRow) : Type 0 where
@@ -46,7 +44,7 @@ reach-most f d x c h i =
     let far : 24 * (d + 1) - f ≡ 24 - f + 24 * d = omega arith in
     let deep = ap (λ n. 2 ^ n) far ∙ pow-add 2 (24 - f) (24 * d) in
     let most : unsigned_abs c ≤ max (unsigned_abs x.low) (unsigned_abs x.high) = omega (arith, ints) in
-    rw (abs-mul, deep) (omega (arith, mul-le-mul_right (2 ^ (24 - f) * 2 ^ (24 * d)) most))
+    rw (unsigned_abs-mul, deep) (omega (arith, mul-le-mul_right (2 ^ (24 - f) * 2 ^ (24 * d)) most))
 
 -- the whole sum of products
 sum_near : (s : Scales) (d : ℕ) (ws : List ℤ) (xs : List WireRow) (cs Xs : List ℤ) → s.fx ≤ 24 → Held s.fx d xs cs Xs
@@ -114,6 +112,10 @@ bound t n f D p r y h i j =
     omega (arith, ap (λ k. k * D) e)
 
 -- ---- the checks that a wire has passed
+-- a wire, by its ends and its error
+abbrev pub wire_with : ℤ → ℤ → ℕ → WireRow
+wire_with low high e = record { low = low; high = high; error = e }
+
 record Passed (s : Scales) (ws : List ℤ) (b : ℤ) (xs : List WireRow) (y : WireRow) : Type 0 where
   pub range : SumRange
   pub sums : range_sum s ws b xs ≡ Some range

@@ -1,8 +1,6 @@
--- Sizes of numbers, by the words that they fit.
-use Rattle.std.specs.Prelude.{◌≡◌, ℕ, zero, suc, ◌+◌, ◌*◌, ◌^◌, ◌<◌, ◌≤◌, true, ℤ, pos, negsuc, ◌*ℤ◌, FitsSigned, unsigned_abs, refl}
-use Rattle.std.proofs.Common.{arith, mul-le-mul, pow_mono}
-use Rattle.std.specs.Int.Signed.{mag}
-use Rattle.std.specs.Int.{w32, w64}
+-- Wider words.
+use Rattle.std.specs.Prelude.{◌≡◌, ℕ, zero, suc, ◌≤◌, true, ℤ}
+use Rattle.std.proofs.Common.{arith, pow_mono}
 use borrow.Author.Differences.{ints}
 use borrow.Author.Tests.{clash}
 use Rattle.std.proofs.lemmas.Bool.Decides.{nat_tests}
@@ -21,26 +19,3 @@ pub range-wider : (v w : ℕ) (r : SumRange) → v ≤ w → range_fits v r ≡ 
 range-wider v w r h e =
     let p = and_parts (fits_word v r.low) (fits_word v r.high) e in
     and_from _ _ (fits_wider v w r.low h p.0) (fits_wider v w r.high h p.1)
-
-pub abs-mul : (y z : ℤ) → unsigned_abs (y *ℤ z) ≡ unsigned_abs y * unsigned_abs z
-abs-mul (pos a) (pos b) = refl
-abs-mul (pos a) (negsuc b) = omega (arith, ints)
-abs-mul (negsuc a) (pos b) = omega (arith, ints)
-abs-mul (negsuc a) (negsuc b) = refl
-
-abs_mag : (z : ℤ) → (mag z ≤ unsigned_abs z) × (unsigned_abs z ≤ mag z + 1)
-abs_mag (pos n) = (omega arith, omega arith)
-abs_mag (negsuc n) = (omega arith, omega arith)
-
--- a product of two codes
-pub product_small : (w x : ℤ) → mag w < 2 ^ 31 → mag x < 2 ^ 31 → unsigned_abs (w *ℤ x) ≤ 2 ^ 62
-product_small w x h k =
-    let a : unsigned_abs w ≤ 2 ^ 31 = omega (arith, abs_mag w) in
-    let b : unsigned_abs x ≤ 2 ^ 31 = omega (arith, abs_mag x) in
-    omega (arith, mul-le-mul a b, abs-mul w x)
-
-pub small-fits : (z : ℤ) → unsigned_abs z ≤ 2 ^ 62 → FitsSigned w64 z
-small-fits z h = record { sfits = omega (arith, abs_mag z) }
-
-pub fits-code : (w : ℕ) (z : ℤ) → w ≤ 24 → fits_word w z ≡ true → FitsSigned w32 z
-fits-code w z h e = let f = fits_wider w 32 z (omega arith) e in record { sfits = grind (arith, ints, nat_tests) }

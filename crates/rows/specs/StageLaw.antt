@@ -10,14 +10,13 @@ use Rattle.stages.specs.declared.shape.KindRefusal.TheVariants.{Format, Length}
 use Rattle.stages.specs.Kind.{Setting, Exact, exactly}
 use Rattle.fixed.specs.Steps.{and_then}
 use Rattle.stages.specs.Containment.{AllProper, InWire, Inside, Held, Stands, Given, Lawful}
-use Rattle.fixed.proofs.Chains.{then_ok}
 use Rattle.rows.specs.declared.layout.Layout.{Layout}
 use Rattle.rows.specs.declared.scales.Scales.{Scales}
 use Rattle.rows.specs.Scales.{scales_fit}
 use Rattle.rows.specs.Row.{row_code, row_wire, row_exact}
 use Rattle.rows.specs.Layout.{weights_at, bias_at, window, outputs_from, row_at, wires_by}
 use Rattle.rows.specs.Plan.{scales_in, plan_in, wires_in, codes_in, after_in, exact_in, rows_kind, Windows, GoodPlan}
-use Rattle.rows.specs.Outputs.{outputs-many}
+use Rattle.rows.specs.Outputs.{outputs-apart, outputs-many}
 use Rattle.rows.specs.RowLaw.{RowLeads, row-leads}
 use Rattle.rows.specs.Windows.{proper-window, inside-window, held-window, held-inside}
 
@@ -29,19 +28,11 @@ module _ (s : Scales) (l : Layout) (bytes : List ℕ) (w : ℕ) (xs : List WireR
       → RowLeads s (weights_at l bytes o) (bias_at l bytes o) (window l o xs) y
   leads-at o y e = row-leads s o w _ _ _ y deep kept (proper-window w (o * l.slide) l.length xs proper) e
 
-  -- the first output and the others
-  apart : {Y E : Type 0} (f : ℕ → Result Y E) (i n : ℕ) (ys : List Y) → outputs_from f i (suc n) ≡ Ok ys
-      → (y : Y) × (zs : List Y) × (f i ≡ Ok y) × (outputs_from f (i + 1) n ≡ Ok zs) × (y ∷ zs ≡ ys)
-  apart f i n ys e =
-      let a = then_ok (f i) _ ys e in
-      let b = then_ok (outputs_from f (i + 1) n) _ ys a.2 in
-      (a.0, b.0, a.1, b.1, cc b.2)
-
   pub rows-proper : (i n : ℕ) (ys : List WireRow)
       → outputs_from (row_at (row_wire s) l bytes xs) i n ≡ Ok ys → AllProper s.wy ys
   rows-proper i zero ys e = let z : [] ≡ ys = cc in subst (AllProper s.wy) z tt
   rows-proper i (suc n) ys e =
-      let a = apart (row_at (row_wire s) l bytes xs) i n ys e in
+      let a = outputs-apart (row_at (row_wire s) l bytes xs) i n ys e in
       let one = leads-at i a.0 a.2 in
       subst (AllProper s.wy) a.4 (one.proper, rows-proper (i + 1) n a.1 a.3)
 
@@ -50,7 +41,7 @@ module _ (s : Scales) (l : Layout) (bytes : List ℕ) (w : ℕ) (xs : List WireR
       → (ds : List ℤ) × (outputs_from (row_at (row_code s) l bytes cs) i n ≡ Ok ds) × Inside ys ds
   rows_run i zero ys cs ins e = let z : [] ≡ ys = cc in ([], refl, subst (λ zs. Inside zs []) z tt)
   rows_run i (suc n) ys cs ins e =
-      let a = apart (row_at (row_wire s) l bytes xs) i n ys e in
+      let a = outputs-apart (row_at (row_wire s) l bytes xs) i n ys e in
       let one = (leads-at i a.0 a.2).runs i (window l i cs) (inside-window (i * l.slide) l.length xs cs ins) in
       let rest = rows_run (i + 1) n a.1 cs ins a.3 in (
         one.0 ∷ rest.0,
@@ -66,8 +57,8 @@ module _ (s : Scales) (l : Layout) (bytes : List ℕ) (w : ℕ) (xs : List WireR
   rows-carry i zero d ys cs ds Xs held e f =
       let z : [] ≡ ys = cc in let y : [] ≡ ds = cc in subst (λ us. Held s.fy (d + 1) us ds []) z (subst (λ vs. Held s.fy (d + 1) [] vs []) y tt)
   rows-carry i (suc n) d ys cs ds Xs held e f =
-      let a = apart (row_at (row_wire s) l bytes xs) i n ys e in
-      let b = apart (row_at (row_code s) l bytes cs) i n ds f in
+      let a = outputs-apart (row_at (row_wire s) l bytes xs) i n ys e in
+      let b = outputs-apart (row_at (row_code s) l bytes cs) i n ds f in
       let one = leads-at i a.0 a.2 in
       let here = held-window s.fx d (i * l.slide) l.length xs cs Xs held in
       let ran = one.runs i (window l i cs) (held-inside s.fx d (window l i xs) (window l i cs) (window l i Xs) here) in

@@ -1,21 +1,20 @@
 // Stages that multiply and accumulate: full and taps.
 #![tactic(auto)]
 
-mod error;
+mod coefficients;
 mod evaluated;
 pub mod full;
+pub mod kind;
 pub mod laws;
 pub mod layout;
-mod plan;
+mod outputs;
+pub mod plan;
 mod quantity;
 mod range;
 mod row;
 pub mod row_format;
-mod rows;
 pub mod scales;
 pub mod taps;
 #[cfg(test)]
 mod tests;
 mod through;
-mod walk;
-mod weights;

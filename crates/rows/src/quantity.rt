@@ -8,9 +8,11 @@ use crate::range::SumRange;
 use fixed::row::WireRow;
 use fixed::word::fits_word;
 
-// A sum, a product of a weight code and an input, and a test for the accumulator's bits.
-pub(crate) trait Quantity: Sized {
-    type Input;
+// A bias, a sum, a product of a weight code and an input, and a test for the accumulator's bits.
+pub(crate) trait Quantity: Copy {
+    type Input: Copy;
+
+    ghost biased: { ℤ → Self };
 
     ghost plus: { Self → Self → Self };
 
@@ -20,6 +22,9 @@ pub(crate) trait Quantity: Sized {
 
     // small enough to be added to what fits 56 bits
     ghost small: { Self → Type 0 };
+
+    fn from_bias(bias: i64) -> Self
+        ensures { result ≡ biased bias };
 
     fn sum(self, other: Self) -> Self
         requires { (fitting 56 self ≡ true) × (small other) }
@@ -38,6 +43,8 @@ pub(crate) trait Quantity: Sized {
 impl Quantity for i64 {
     type Input = i32;
 
+    ghost biased = { λ b. b };
+
     ghost plus = { ◌+ℤ◌ };
 
     ghost times = { ◌*ℤ◌ };
@@ -47,6 +54,10 @@ impl Quantity for i64 {
     ghost small = { λ z. unsigned_abs z ≤ 2 ^ 62 };
 
     ghost wider = { fits_wider };
+
+    fn from_bias(bias: i64) -> i64 {
+        bias
+    }
 
     fn sum(self, other: i64) -> i64 {
         self + other
@@ -64,6 +75,8 @@ impl Quantity for i64 {
 impl Quantity for SumRange {
     type Input = WireRow;
 
+    ghost biased = { λ b. record { low = b; high = b } };
+
     ghost plus = { range_plus };
 
     ghost times = { range_times };
@@ -73,6 +86,13 @@ impl Quantity for SumRange {
     ghost small = { λ r. (unsigned_abs r.low ≤ 2 ^ 62) × (unsigned_abs r.high ≤ 2 ^ 62) };
 
     ghost wider = { range-wider };
+
+    fn from_bias(bias: i64) -> SumRange {
+        SumRange {
+            low: bias,
+            high: bias,
+        }
+    }
 
     fn sum(self, other: SumRange) -> SumRange {
         SumRange {

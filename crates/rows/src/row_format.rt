@@ -6,7 +6,7 @@ use crate::scales::Scales;
 
 #[derive(Clone, Copy)]
 pub struct RowFormat {
-    scales: Scales,
+    pub(crate) scales: Scales,
     ghost weights: { WeightLimits scales },
     ghost shifts: { ShiftLimits scales },
     ghost sums: { SumLimits scales },

@@ -1,4 +1,5 @@
-use crate::row::judge_row;
+use crate::evaluated::Evaluated;
+use crate::row::Row;
 use crate::row_format::RowFormat;
 use crate::scales::Scales;
 use fixed::row::WireRow;
@@ -38,7 +39,13 @@ fn opposite_weights(rt: HostRuntime) -> Result<(), Fail> {
         assert!(rt; false);
         return Ok(());
     };
-    match judge_row(wide, 0, &weights, 0, &rows) {
+    let row = Row {
+        format: wide,
+        weights: &weights,
+        bias: 0,
+        inputs: &rows,
+    };
+    match Evaluated::output(&row, 0) {
         Ok(wire) => assert_eq!(rt; (wire.low, wire.high, wire.error), (-452, 452, 126_976)),
         Err(_) => assert!(rt; false),
     }
@@ -46,7 +53,13 @@ fn opposite_weights(rt: HostRuntime) -> Result<(), Fail> {
         assert!(rt; false);
         return Ok(());
     };
-    match judge_row(narrow, 3, &weights, 0, &rows) {
+    let row = Row {
+        format: narrow,
+        weights: &weights,
+        bias: 0,
+        inputs: &rows,
+    };
+    match Evaluated::output(&row, 3) {
         Err(KindRefusal::RangeSum { output }) => {
             assert_eq!(rt; output, 3);
             Ok(())

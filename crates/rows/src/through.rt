@@ -1,84 +1,85 @@
 // Stages of rows through a plan.
 ghost use Rattle.std.specs.Prelude.{◌≡◌, length};
-ghost use Rattle.stages.specs.Kind.{setting, map_ok, over};
+ghost use Rattle.stages.specs.Kind.{map_ok};
 ghost use Rattle.stages.specs.Containment.{Given, Passes};
+ghost use Rattle.stages.specs.Network.{wires_by};
+ghost use Rattle.stages.specs.Wires.{setting_in, wires_in};
 ghost use Rattle.rows.specs.Plan.{rows_kind, scales_in};
 
-use crate::evaluated::{Codes, Wires};
+use crate::coefficients::Coefficients;
+use crate::outputs::Outputs;
 use crate::plan::Plan;
 use crate::row_format::RowFormat;
-use crate::rows::all_rows;
 use crate::scales::Scales;
 use fixed::bytes::u8_at;
 use fixed::row::WireRow;
 use stages::shape::{KindRefusal, RunRefusal, Shape};
+use stages::stage::Stage;
+use stages::wires::{Codes, Wires};
 
-fn scales_in(bytes: &[u8], accumulator: u8, before: Shape) -> Scales
-    ensures { result ≡ scales_in (setting bytes.now accumulator before) }
+fn scales_in(stage: Stage<'_>) -> Scales
+    ensures { result ≡ scales_in (setting_in stage.entry) }
 {
     Scales {
-        fw: u8_at(bytes, 2),
-        ww: u8_at(bytes, 3),
-        fx: before.fraction,
-        fy: u8_at(bytes, 4),
-        wy: u8_at(bytes, 5),
-        bits: accumulator,
+        fw: u8_at(stage.bytes, 2),
+        ww: u8_at(stage.bytes, 3),
+        fx: stage.before.fraction,
+        fy: u8_at(stage.bytes, 4),
+        wy: u8_at(stage.bytes, 5),
+        bits: stage.accumulator,
     }
 }
 
-// The wires after the stage in front of the lent table, and its shape.
-pub(crate) fn judge_plan<P: Plan>(
-    bytes: &[u8],
-    accumulator: u8,
-    before: Shape,
-    rows: &[WireRow],
-    out: &mut [WireRow; 64],
-) -> Result<Shape, KindRefusal>
-    requires { Given (setting bytes.now accumulator before) rows.now }
-    ensures answer { result ≡ map_ok (λ _. (rows_kind P.plan).after (setting bytes.now accumulator before)) ((rows_kind P.plan).wires (setting bytes.now accumulator before) rows.now) }
-    ensures table { out.new ≡ over ((rows_kind P.plan).wires (setting bytes.now accumulator before) rows.now) out.old }
+// The wires after the stage.
+pub(crate) fn judge_plan<'a, P: Plan>(
+    stage: Stage<'a>,
+    wires: &'a [WireRow],
+) -> Result<Wires, KindRefusal>
+    requires { Given (setting_in stage) wires.now }
+    ensures { map_ok wires_in result ≡ wires_by (rows_kind P.plan) (setting_in stage.entry) wires.now }
 {
-    let Some(layout) = P::layout(u8_at(bytes, 1), before.count) else {
-        return Err(KindRefusal::Size);
-    };
-    if bytes.len() != 6 + 4 * usize::from(layout.numbers) {
+    let size = u8_at(stage.bytes, 1);
+    let layout = P::layout(size, stage.before.count).ok_or(KindRefusal::Size)?;
+    if stage.bytes.len() != 6 + 4 * usize::from(layout.numbers) {
         return Err(KindRefusal::Length);
     }
-    let scales = scales_in(bytes, accumulator, before);
-    let Some(format) = RowFormat::new(scales) else {
-        return Err(KindRefusal::Format);
+    let scales = scales_in(stage);
+    let format = RowFormat::new(scales).ok_or(KindRefusal::Format)?;
+    let outputs = Outputs {
+        format,
+        coefficients: Coefficients {
+            layout,
+            bytes: stage.bytes,
+        },
+        inputs: wires,
     };
-    match all_rows::<Wires>(format, layout, bytes, rows, out) {
-        Ok(()) => Ok(Shape {
+    let rows = outputs.all()?;
+    Ok(Wires {
+        shape: Shape {
             count: layout.outputs,
             word: scales.wy,
             fraction: scales.fy,
-        }),
-        Err(refusal) => Err(refusal),
-    }
+        },
+        rows,
+    })
 }
 
-// The codes after a stage that some wires pass, in front of the lent table, and how many.
-pub(crate) fn run_plan<P: Plan>(
-    bytes: &[u8],
-    accumulator: u8,
-    before: Shape,
-    codes: &[i32],
-    out: &mut [i32; 64],
-) -> Result<usize, RunRefusal>
-    requires passes { Passes (rows_kind P.plan) (setting bytes.now accumulator before) }
-    requires many { length codes.now ≡ before.count }
-    ensures answer { result ≡ map_ok length ((rows_kind P.plan).code (setting bytes.now accumulator before) codes.now) }
-    ensures table { out.new ≡ over ((rows_kind P.plan).code (setting bytes.now accumulator before) codes.now) out.old }
+// The codes after a stage that some wires pass.
+pub(crate) fn run_plan<'a, P: Plan>(stage: Stage<'a>, codes: &'a [i32]) -> Result<Codes, RunRefusal>
+    requires passes { Passes (rows_kind P.plan) (setting_in stage) }
+    requires many { length codes.now ≡ stage.before.count }
+    ensures { map_ok (λ v. v.items) result ≡ (rows_kind P.plan).code (setting_in stage.entry) codes.now }
 {
-    let Some(layout) = P::layout(u8_at(bytes, 1), before.count) else {
-        return unreachable();
+    let size = u8_at(stage.bytes, 1);
+    let layout = P::layout(size, stage.before.count).unwrap();
+    let format = RowFormat::new(scales_in(stage)).unwrap();
+    let outputs = Outputs {
+        format,
+        coefficients: Coefficients {
+            layout,
+            bytes: stage.bytes,
+        },
+        inputs: codes,
     };
-    let Some(format) = RowFormat::new(scales_in(bytes, accumulator, before)) else {
-        return unreachable();
-    };
-    match all_rows::<Codes>(format, layout, bytes, codes, out) {
-        Ok(()) => Ok(usize::from(layout.outputs)),
-        Err(refusal) => Err(refusal),
-    }
+    outputs.all()
 }

@@ -15,7 +15,7 @@ impl RowFormat {
         ensures test { is_some result ≡ scales_fit scales }
         ensures parts { IfSome result (λ f. f.scales ≡ scales) }
     {
-        let weighted = 4 <= scales.fw && scales.fw <= 20 && 2 <= scales.ww && scales.ww <= 24;
+        let weighted = matches!(scales.fw, 4..=20) && matches!(scales.ww, 2..=24);
         if !weighted || Format::new(scales.wy, scales.fy).is_none() {
             return None;
         }
@@ -25,12 +25,6 @@ impl RowFormat {
         } else {
             None
         }
-    }
-
-    pub(crate) fn scales(&self) -> Scales
-        ensures { result ≡ self.now.scales }
-    {
-        self.scales
     }
 
     // The bits that the output drops from a sum.
