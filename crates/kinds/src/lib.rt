@@ -39,6 +39,13 @@ pub const BASE: Base = Pair {
     },
 };
 
+// What the set means: the kinds of this relay, by their numbers.
+pub fn base() -> Base
+    ensures { ⟦<Base as KindSet>⟧.meaning result ≡ base_kinds }
+{
+    BASE
+}
+
 // Whether a number stands for a kind.
 pub fn is_known(number: u8) -> bool
     ensures { result ≡ is_some (base_kinds number) }
