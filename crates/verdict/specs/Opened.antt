@@ -4,5 +4,5 @@ use Rattle.settings.specs.Head.{Head}
 use Rattle.verdict.specs.declared.network.Network.{Network}
 
 -- its head, by its network and the wires of its inputs
-abbrev pub head_in : Network → Wires → Head
+abbrev pub head_in : {K : Type 0} → Network K → Wires → Head
 head_in n inputs = record { header = n.header.fields; inputs = inputs.rows.items; rest = n.records.now }

@@ -18,28 +18,27 @@ use stages::wires::Wires;
 
 // A stage by its record, with the wires that stand before it.
 fn try_stage<K: KindSet>(
-    kinds: &K,
-    network: &Network<'_>,
+    network: &Network<'_, K>,
     k: u8,
     before: &Wires,
     codes: &[i32],
     out: &mut [i32],
 ) -> Result<usize, Refusal>
     requires { k < 16 }
-    ensures answer { result ≡ map_ok length (tried (K.meaning kinds.now) network.now.header.fields.accumulator (k + 1) (wires_in before.now) codes.now (length out.old) (stage_at network.now.records.now k)) }
-    ensures buffer { out.new ≡ over (tried (K.meaning kinds.now) network.now.header.fields.accumulator (k + 1) (wires_in before.now) codes.now (length out.old) (stage_at network.now.records.now k)) out.old }
+    ensures answer { result ≡ map_ok length (tried (K.meaning network.now.kinds.now) network.now.header.fields.accumulator (k + 1) (wires_in before.now) codes.now (length out.old) (stage_at network.now.records.now k)) }
+    ensures buffer { out.new ≡ over (tried (K.meaning network.now.kinds.now) network.now.header.fields.accumulator (k + 1) (wires_in before.now) codes.now (length out.old) (stage_at network.now.records.now k)) out.old }
 {
     if codes.len() != usize::from(before.shape.count) {
         return Err(Refusal::CodeCount);
     }
-    let split = stage_at(network.records(), k).ok_or(Refusal::NoFile)?;
-    let Ok(after) = network.judge_record(kinds, k, split.front, before) else {
+    let split = stage_at(network.records, k).ok_or(Refusal::NoFile)?;
+    let Ok(after) = network.judge_record(k, split.front, before) else {
         return Err(Refusal::NoFile);
     };
     if out.len() < usize::from(after.shape.count) {
         return Err(Refusal::ShortBuffer);
     }
-    let made = network.run_record(kinds, split.front, before.shape, codes)?;
+    let made = network.run_record(split.front, before.shape, codes)?;
     write_front(made.as_slice(), out)
 }
 
@@ -55,7 +54,7 @@ pub fn bench_of<K: KindSet>(
     ensures answer { result ≡ map_ok length (bench_in (K.meaning kinds.now) (loaded_in (K.meaning kinds.now) file.now) stage codes.now (length out.old)) }
     ensures buffer { out.new ≡ over (bench_in (K.meaning kinds.now) (loaded_in (K.meaning kinds.now) file.now) stage codes.now (length out.old)) out.old }
 {
-    let Ok((network, inputs)) = open(file) else {
+    let Ok((network, inputs)) = open(kinds, file) else {
         return Err(Refusal::NoFile);
     };
     let Ok(_) = judge_file(kinds, file) else {
@@ -65,8 +64,8 @@ pub fn bench_of<K: KindSet>(
         return Err(Refusal::NoStage);
     }
     let k = (stage - 1) as u8;
-    let Ok(before) = network.judge_stages(kinds, k, inputs) else {
+    let Ok(before) = network.judge_stages(k, inputs) else {
         return Err(Refusal::NoFile);
     };
-    try_stage(kinds, &network, k, &before, codes, out)
+    try_stage(&network, k, &before, codes, out)
 }

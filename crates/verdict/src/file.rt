@@ -11,8 +11,8 @@ use stages::kind_set::KindSet;
 pub(crate) fn judge_file<K: KindSet>(kinds: &K, file: &[u8]) -> Result<u32, Refusal>
     ensures { result ≡ verdict_of (K.meaning kinds.now) file.now }
 {
-    let (network, inputs) = open(file)?;
-    let last = network.judge_stages(kinds, network.fields().stages, inputs)?;
+    let (network, inputs) = open(kinds, file)?;
+    let last = network.judge_stages(network.fields().stages, inputs)?;
     network.close(&last)
 }
 

@@ -6,8 +6,8 @@ use stages::wires::{Codes, Wires};
 // Wires, and a code for each of them.
 #[derive(Drop)]
 pub struct Frame {
-    wires: Wires,
-    codes: Codes,
+    pub(crate) wires: Wires,
+    pub(crate) codes: Codes,
     ghost many: { length codes.items ≡ wires.shape.count },
 }
 

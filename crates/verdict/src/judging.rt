@@ -31,7 +31,7 @@ fn refused_at(stage: u8, why: KindRefusal) -> Refusal
     }
 }
 
-impl Network<'_> {
+impl<K: KindSet> Network<'_, K> {
     // What a kind is given of a record.
     pub(crate) fn stage<'b>(&self, bytes: &'b [u8], before: Shape) -> Stage<'b>
         ensures { setting_in result ≡ setting bytes.now self.now.header.fields.accumulator before }
@@ -44,43 +44,32 @@ impl Network<'_> {
     }
 
     // One stage, by its record.
-    pub(crate) fn judge_record<K: KindSet>(
-        &self,
-        kinds: &K,
-        k: u8,
-        bytes: &[u8],
-        before: &Wires,
-    ) -> Result<Wires, Refusal>
+    pub(crate) fn judge_record(&self, k: u8, bytes: &[u8], before: &Wires) -> Result<Wires, Refusal>
         requires { k < 16 }
-        ensures { map_ok wires_in result ≡ at_stage (k + 1) (wires_after (K.meaning kinds.now) self.now.header.fields.accumulator bytes.now (wires_in before.now)) }
+        ensures { map_ok wires_in result ≡ at_stage (k + 1) (wires_after (K.meaning self.now.kinds.now) self.now.header.fields.accumulator bytes.now (wires_in before.now)) }
     {
         let stage = self.stage(bytes, before.shape);
-        kinds
+        self.kinds
             .judge(u8_at(bytes, 0), stage, before.rows.as_slice())
             .map_err(|why| refused_at(k + 1, why))
     }
 
-    fn judge_stage<K: KindSet>(&self, kinds: &K, k: u8, before: &Wires) -> Result<Wires, Refusal>
+    fn judge_stage(&self, k: u8, before: &Wires) -> Result<Wires, Refusal>
         requires { k < 16 }
-        ensures { map_ok wires_in result ≡ wires_past (K.meaning kinds.now) self.now.header.fields.accumulator (k + 1) (wires_in before.now) (stage_at self.now.records.now k) }
+        ensures { map_ok wires_in result ≡ wires_past (K.meaning self.now.kinds.now) self.now.header.fields.accumulator (k + 1) (wires_in before.now) (stage_at self.now.records.now k) }
     {
-        let split = stage_at(self.records(), k).ok_or(Refusal::RecordLength { stage: k + 1 })?;
-        self.judge_record(kinds, k, split.front, before)
+        let split = stage_at(self.records, k).ok_or(Refusal::RecordLength { stage: k + 1 })?;
+        self.judge_record(k, split.front, before)
     }
 
     // The first stages, from the wires of the inputs on.
-    pub(crate) fn judge_stages<K: KindSet>(
-        &self,
-        kinds: &K,
-        stages: u8,
-        inputs: Wires,
-    ) -> Result<Wires, Refusal>
+    pub(crate) fn judge_stages(&self, stages: u8, inputs: Wires) -> Result<Wires, Refusal>
         requires { stages ≤ 16 }
-        ensures { map_ok wires_in result ≡ wires_from (K.meaning kinds.now) self.now.header.fields.accumulator self.now.records.now 0 stages (wires_in inputs) }
+        ensures { map_ok wires_in result ≡ wires_from (K.meaning self.now.kinds.now) self.now.header.fields.accumulator self.now.records.now 0 stages (wires_in inputs) }
     {
         let mut wires = inputs;
         for k in 0..stages {
-            wires = self.judge_stage(kinds, k, &wires)?;
+            wires = self.judge_stage(k, &wires)?;
         }
         Ok(wires)
     }
@@ -91,7 +80,7 @@ impl Network<'_> {
     {
         let fields = self.fields();
         let stage = fields.stages;
-        let Some([]) = from_stage(self.records(), stage) else {
+        let Some([]) = from_stage(self.records, stage) else {
             return Err(Refusal::TrailingBytes { stage });
         };
         if last.shape.count != 1 {

@@ -12,7 +12,7 @@ use stages::kind_set::KindSet;
 pub fn fields_of<K: KindSet>(kinds: &K, file: &[u8]) -> Option<Fields>
     ensures { result ≡ fields_in (loaded_in (K.meaning kinds.now) file.now) }
 {
-    let (network, _) = open(file).ok()?;
+    let (network, _) = open(kinds, file).ok()?;
     judge_file(kinds, file).ok()?;
     Some(network.fields())
 }

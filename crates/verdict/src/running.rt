@@ -22,20 +22,19 @@ fn run_refusal(why: RunRefusal) -> Refusal
     }
 }
 
-impl Network<'_> {
+impl<K: KindSet> Network<'_, K> {
     // One stage that some wires pass, by its record.
-    pub(crate) fn run_record<K: KindSet>(
+    pub(crate) fn run_record(
         &self,
-        kinds: &K,
         bytes: &[u8],
         before: Shape,
         codes: &[i32],
     ) -> Result<Codes, Refusal>
-        requires passes { Passes (kind_in (K.meaning kinds.now) bytes.now) (setting bytes.now self.now.header.fields.accumulator before) }
+        requires passes { Passes (kind_in (K.meaning self.now.kinds.now) bytes.now) (setting bytes.now self.now.header.fields.accumulator before) }
         requires many { length codes.now ≡ before.count }
-        ensures { map_ok (λ v. v.items) result ≡ ran (codes_by (K.meaning kinds.now) self.now.header.fields.accumulator bytes.now before codes.now) }
+        ensures { map_ok (λ v. v.items) result ≡ ran (codes_by (K.meaning self.now.kinds.now) self.now.header.fields.accumulator bytes.now before codes.now) }
     {
-        kinds
+        self.kinds
             .run(u8_at(bytes, 0), self.stage(bytes, before), codes)
             .map_err(|why| run_refusal(why))
     }

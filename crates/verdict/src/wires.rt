@@ -13,7 +13,7 @@ use stages::wires::Wires;
 pub fn wires_after<K: KindSet>(kinds: &K, file: &[u8], stage: u8) -> Result<Wires, Refusal>
     ensures { map_ok wires_in result ≡ wires_up_to (K.meaning kinds.now) file.now stage }
 {
-    let (network, inputs) = open(file)?;
+    let (network, inputs) = open(kinds, file)?;
     let stages = stage.min(network.fields().stages);
-    network.judge_stages(kinds, stages, inputs)
+    network.judge_stages(stages, inputs)
 }

@@ -12,6 +12,7 @@ use settings::fields::Fields;
 use settings::head::Head;
 use settings::head::reads::read_head;
 use settings::refusal::Refusal;
+use stages::kind_set::KindSet;
 use stages::shape::Shape;
 use stages::stage::Stage;
 use stages::wires::Wires;
@@ -27,9 +28,13 @@ fn input_shape(fields: Fields) -> Shape
 }
 
 // The network of a file, and the wires of its inputs.
-pub(crate) fn open(file: &[u8]) -> Result<(Network<'_>, Wires), Refusal>
+pub(crate) fn open<'a, K: KindSet>(
+    kinds: &'a K,
+    file: &'a [u8],
+) -> Result<(Network<'a, K>, Wires), Refusal>
     ensures head { result_map_both (λ o. head_in o.0 o.1) (λ e. e) result ≡ head_of file.now }
     ensures shape { IfOk result (λ o. o.1.shape ≡ shape_in o.0.header.fields) }
+    ensures kinds { IfOk result (λ o. o.0.kinds.now ≡ kinds.now) }
 {
     let Head {
         header,
@@ -38,6 +43,7 @@ pub(crate) fn open(file: &[u8]) -> Result<(Network<'_>, Wires), Refusal>
     } = read_head(file)?;
     let shape = input_shape(header.fields());
     let network = Network {
+        kinds,
         header,
         records: rest,
     };
@@ -50,16 +56,10 @@ pub(crate) fn open(file: &[u8]) -> Result<(Network<'_>, Wires), Refusal>
     ))
 }
 
-impl Network<'_> {
+impl<K: KindSet> Network<'_, K> {
     pub(crate) fn fields(&self) -> Fields
         ensures { result ≡ self.now.header.fields }
     {
         self.header.fields()
-    }
-
-    pub(crate) fn records(&self) -> &[u8]
-        ensures { result.now ≡ self.now.records.now }
-    {
-        self.records
     }
 }

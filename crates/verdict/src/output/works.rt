@@ -76,8 +76,8 @@ fn grains(code: i32, shape: Shape) -> i64
 fn output_with(fields: Fields, last: &Frame) -> Output
     ensures { result ≡ output_with fields (frame_in last.now).at.shape (frame_in last.now).codes }
 {
-    let code = last.codes().first().copied().unwrap_or(0);
-    let grains = grains(code, last.wires().shape);
+    let code = last.codes.as_slice().first().copied().unwrap_or(0);
+    let grains = grains(code, last.wires.shape);
     Output {
         fields,
         code,
@@ -87,39 +87,41 @@ fn output_with(fields: Fields, last: &Frame) -> Output
 
 // One pass over the stages with a frame of as many codes as inputs.
 fn run_frame<K: KindSet>(
-    kinds: &K,
-    network: &Network<'_>,
+    network: &Network<'_, K>,
     inputs: Wires,
     codes: Codes,
 ) -> Result<Output, Refusal>
     requires { length codes.items ≡ inputs.shape.count }
-    ensures { result ≡ frame_pass (K.meaning kinds.now) network.now.header.fields network.now.records.now (frame (wires_in inputs) codes.items) }
+    ensures { result ≡ frame_pass (K.meaning network.now.kinds.now) network.now.header.fields network.now.records.now (frame (wires_in inputs) codes.items) }
 {
     let fields = network.fields();
-    let last = network.run_stages(kinds, fields.stages, Frame::new(inputs, codes))?;
-    network.close(last.wires())?;
+    let inputs = Frame {
+        wires: inputs,
+        codes,
+    };
+    let last = network.run_stages(fields.stages, inputs)?;
+    network.close(&last.wires)?;
     Ok(output_with(fields, &last))
 }
 
 // The pass of a frame whose codes are taken.
 fn pass<K: KindSet>(
-    kinds: &K,
-    network: &Network<'_>,
+    network: &Network<'_, K>,
     inputs: Wires,
     codes: &[i32],
 ) -> Result<Output, Refusal>
-    ensures { result ≡ unless_fault (frame_fault inputs.rows.items codes.now) (frame_pass (K.meaning kinds.now) network.now.header.fields network.now.records.now (frame (wires_in inputs) codes.now)) }
+    ensures { result ≡ unless_fault (frame_fault inputs.rows.items codes.now) (frame_pass (K.meaning network.now.kinds.now) network.now.header.fields network.now.records.now (frame (wires_in inputs) codes.now)) }
 {
     check_frame(inputs.rows.as_slice(), codes)?;
-    run_frame(kinds, network, inputs, taken(codes))
+    run_frame(network, inputs, taken(codes))
 }
 
 // The output of a frame, or the first refusal; with a file that is not accepted, that there is no file.
 pub fn output_of<K: KindSet>(kinds: &K, file: &[u8], codes: &[i32]) -> Result<Output, Refusal>
     ensures { result ≡ output_in (K.meaning kinds.now) (loaded_in (K.meaning kinds.now) file.now) codes.now }
 {
-    let Ok((network, inputs)) = open(file) else {
+    let Ok((network, inputs)) = open(kinds, file) else {
         return Err(Refusal::NoFile);
     };
-    pass(kinds, &network, inputs, codes).map_err(|refusal| refused_or_none(kinds, file, refusal))
+    pass(&network, inputs, codes).map_err(|refusal| refused_or_none(kinds, file, refusal))
 }

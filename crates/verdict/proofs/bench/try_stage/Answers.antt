@@ -10,7 +10,7 @@ returns g c =
     let before = c.args.before.now in
     let words = c.args.network.now.header.words in
     let made = c.as_slice.result.now in
-    let many = codes-many _ (g.met.K.KindSet.lawful c.args.kinds.now) c.args.network.now.header.fields.accumulator (c.args.k + 1) c.in_ok-split.split.front.now
+    let many = codes-many _ (g.met.K.KindSet.lawful c.args.network.now.kinds.now) c.args.network.now.header.fields.accumulator (c.args.k + 1) c.in_ok-split.split.front.now
     (wires_in before) (wires_in c.in-Ok.after) c.args.codes.now c.in_ok-made.made.items
     words.1 words.2 before.stands c.in-Ok.ensures (omega arith) c.in_ok-made.ensures in
     let room : length made ≤ length c.args.out.now = omega (arith, many, ap length c.as_slice.ensures.value) in

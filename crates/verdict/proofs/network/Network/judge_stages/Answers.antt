@@ -6,12 +6,12 @@ use Rattle.verdict.proofs.network.Network.judge_stages.Goals as goal
 pub returns-in_err-wires : goal.returns-in_err-wires
 returns-in_err-wires g c =
     let told = c.loop-k.invariant
-    ∙ wires-step (g.K.KindSet.meaning c.args.kinds.now) c.args.self.now.header.fields.accumulator c.args.self.now.records.now c.loop-k.k c.args.stages
+    ∙ wires-step (g.K.KindSet.meaning c.args.self.now.kinds.now) c.args.self.now.header.fields.accumulator c.args.self.now.records.now c.loop-k.k c.args.stages
     (wires_in c.loop-k.wires) (Err c.in_err-wires.field-0.0) (omega arith) c.in_err-wires.ensures in
     search rules
 
 pub loop-k-preserved : goal.loop-k-preserved
 loop-k-preserved g c =
     c.loop-k.invariant
-    ∙ wires-step (g.K.KindSet.meaning c.args.kinds.now) c.args.self.now.header.fields.accumulator c.args.self.now.records.now c.loop-k.k c.args.stages
+    ∙ wires-step (g.K.KindSet.meaning c.args.self.now.kinds.now) c.args.self.now.header.fields.accumulator c.args.self.now.records.now c.loop-k.k c.args.stages
     (wires_in c.loop-k.wires) (Ok (wires_in c.in_ok-wires.wires)) (omega arith) c.in_ok-wires.ensures

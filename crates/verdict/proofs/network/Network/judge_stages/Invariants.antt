@@ -5,7 +5,7 @@ use Rattle.verdict.proofs.network.Network.judge_stages.Given as goal
 
 abbrev pub invariant-loop-k : goal.invariant-loop-k
 invariant-loop-k g l =
-    let m = g.K.KindSet.meaning l.kinds in
+    let m = g.K.KindSet.meaning l.self.kinds.now in
     let a = l.self.header.fields.accumulator in
     let xs = l.self.records.now in
     wires_from m a xs 0 l.stages (wires_in l.fn.inputs) ≡ wires_from m a xs l.k (l.stages - l.k) (wires_in l.wires)

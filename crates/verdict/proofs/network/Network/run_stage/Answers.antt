@@ -8,7 +8,7 @@ invariant_of-result g c =
     let before = c.args.frame.now in
     let words = c.args.self.now.header.words in
     record {
-      many = codes-many _ (g.met.K.KindSet.lawful c.args.kinds.now) c.args.self.now.header.fields.accumulator
+      many = codes-many _ (g.met.K.KindSet.lawful c.args.self.now.kinds.now) c.args.self.now.header.fields.accumulator
           (c.args.k + 1) c.in_ok-split.split.front.now (wires_in before.wires) (wires_in c.in_ok-wires.wires) c.as_slice.result.now c.in_ok-codes.codes.items
           words.1 words.2 before.wires.stands c.in_ok-wires.ensures (ap length c.as_slice.ensures.value ∙ before.many) c.in_ok-codes.ensures;
     }

@@ -7,7 +7,7 @@ use Rattle.verdict.proofs.Heads.{opened-stand}
 use Rattle.verdict.proofs.network.opens.open.Goals as goal
 
 pub invariant_of-result : goal.invariant_of-result
-invariant_of-result c =
+invariant_of-result g c =
     let told = c.in_ok-header.ensures in
     let stands = opened-stand c.args.file.now (head_in c.in_ok-header.field-0) told.law told.answer in
     let shape = c.input_shape-shape.ensures ∙ ap shape_in c.fields.ensures in
