@@ -1,51 +1,59 @@
--- The lines of a text, one after another.
-use Rattle.std.proofs.Common.{◌≡◌, ℕ, ◌+◌, ◌-◌, ◌<◌, ◌≤◌, min, true, false, eqb, List, [], ◌∷◌, ◌++◌, length, take, drop, sym, refl, ap, ◌∙◌, ⊎_elim, append_assoc, arith}
-use Rattle.std.proofs.lemmas.List.{drop_more, drop_all, take_all, take_rest}
-use Rattle.std.proofs.lemmas.Bool.{cond-true, cond-false, ne_eqb, cases_Bool, cases_lt}
-use Rattle.script.specs.Parts.{split_from, split, parts_after}
+-- The lines of a text, one after another, each with its line feed.
+use Rattle.std.proofs.Common.{◌≡◌, ℕ, ◌+◌, ◌<◌, ◌≤◌, min, true, false, cond, eqb, List, [], ◌∷◌, ◌++◌, length, get_or, take, Some, None, Option, MatchOption, Bor, unwrap_or, sym, refl, ap, ◌∙◌, inl, inr, ◌⊎◌, ⊎_elim, append_assoc, append-nil, arith}
+use Rattle.std.specs.List.{slice_split, onto_first, IsFirstMatchOrLen, All}
+use Rattle.std.proofs.lemmas.List.{get_or_append_left, nil_from_length, take_more, take_all, length-append}
+use Rattle.std.proofs.lemmas.List.Splits.{slice_split_at, slice_split_none}
+use Rattle.std.proofs.lemmas.Bool.{cases_lt, cond-false, eqb-true, ne_eqb}
 use Rattle.script.specs.Scripts.{until_last, lines_of}
+use Rattle.script.proofs.Parts.{slice_split-split}
 
-pub until-more : (s : ℕ) (p part cs : List ℕ) → until_last (p ∷ split_from s part cs) ≡ p ∷ until_last (split_from s part cs)
-until-more s p part [] = refl
-until-more s p part (c ∷ cs) =
+-- the feed of a line goes, if it has one
+abbrev pub IsStripped : List ℕ → List ℕ → Type 0
+IsStripped line kept = (line ≡ kept ++ 10 ∷ []) ⊎ ((kept ≡ line) × ((front : List ℕ) → line ≡ front ++ 10 ∷ [] → ⊥))
+
+pub stripped : (line : Bor (List ℕ)) (r : Option (Bor (List ℕ))) → MatchOption r ((front : List ℕ) → line.now ≡ front ++ 10 ∷ [] → ⊥) (λ x. line.now ≡ x.now ++ 10 ∷ []) → IsStripped line.now (unwrap_or r line).now
+stripped line (Some x) h = inl h
+stripped line None h = inr (refl, h)
+
+-- a part is the last one only at the end of the text
+until_last-onto_first : (p : List ℕ) (c : ℕ) (ps : List (List ℕ)) → until_last (p ∷ onto_first c ps) ≡ p ∷ until_last (onto_first c ps)
+until_last-onto_first p c [] = refl
+until_last-onto_first p c (q ∷ ps) = refl
+
+until_last-split : (p cs : List ℕ) → until_last (p ∷ slice_split (λ c. eqb c 10) cs) ≡ p ∷ until_last (slice_split (λ c. eqb c 10) cs)
+until_last-split p [] = refl
+until_last-split p (c ∷ cs) =
+    let ps = slice_split (λ x. eqb x 10) cs in
+    elim (eqb c 10) as (λ e. until_last (p ∷ cond e ([] ∷ ps) (onto_first c ps)) ≡ p ∷ until_last (cond e ([] ∷ ps) (onto_first c ps))) [
+      | true ↦ refl
+      | false ↦ until_last-onto_first p c ps
+    ]
+
+-- the first line, where it ends in a line feed or the text does
+feed-first : (text kept rest : List ℕ) → text ≡ kept ++ 10 ∷ rest → All (λ c. eqb c 10 ≡ false) kept → lines_of text ≡ kept ∷ lines_of rest
+feed-first text kept rest e none =
+    simp (← slice_split-split) (ap (λ t. until_last (slice_split (λ c. eqb c 10) t)) e
+    ∙ ap until_last (slice_split_at (λ c. eqb c 10) kept 10 rest none refl) ∙ until_last-split kept rest)
+
+last-first : (text : List ℕ) → 0 < length text → All (λ c. eqb c 10 ≡ false) text → lines_of text ≡ text ∷ lines_of []
+last-first text some none =
+    ap until_last (sym (slice_split-split 10 text) ∙ slice_split_none (λ c. eqb c 10) text none)
+    ∙ cond-false (eqb (length text) 0) [] (text ∷ []) (ne_eqb (length text) 0 (omega arith))
+
+pub lines_of_first : (text line rest kept : List ℕ) (i : ℕ) → text ≡ line ++ rest → 0 < length text → length line ≡ min (i + 1) (length text)
+    → IsFirstMatchOrLen (λ c. eqb c 10) text i → IsStripped line kept → lines_of text ≡ kept ∷ lines_of rest
+lines_of_first text line rest kept i whole some len first (inl feed) =
+    let e : text ≡ kept ++ 10 ∷ rest = whole ∙ ap (λ l. l ++ rest) feed ∙ append_assoc kept (10 ∷ []) rest in
+    let short : length kept + 1 ≡ length line = simp (feed, length-append) in
+    feed-first text kept rest e (λ k d h. simp (e, get_or_append_left kept (10 ∷ rest) d k h) at (first.0 k d (omega arith) (omega arith)))
+lines_of_first text line rest kept i whole some len first (inr (same, none)) =
+    let sum : length text ≡ length line + length rest = simp (whole, length-append) in
     ⊎_elim
-    (λ (e : eqb c s ≡ true). let w = cond-true (eqb c s) (part ∷ split_from s [] cs) (split_from s (part ++ c ∷ []) cs) e in
-    ap (λ qs. until_last (p ∷ qs)) w ∙ sym (ap (λ qs. p ∷ until_last qs) w))
-    (λ (e : eqb c s ≡ false). let w = cond-false (eqb c s) (part ∷ split_from s [] cs) (split_from s (part ++ c ∷ []) cs) e in
-    ap (λ qs. until_last (p ∷ qs)) w ∙ until-more s p (part ++ c ∷ []) cs ∙ sym (ap (λ qs. p ∷ until_last qs) w))
-    (cases_Bool (eqb c s))
-
--- the first line, and what is left behind its line feed
-pub lines_more : (left : List ℕ) (len m : ℕ) → 0 < length left → len ≤ length left → m ≡ min (length left - len) 1
-    → split 10 left ≡ take len left ∷ parts_after 10 (drop len left)
-    → lines_of left ≡ take (len - 0) left ∷ lines_of (take (length left - (len + m)) (drop (len + m) left))
-lines_more left len m some fits e sp =
-    let z : len ≡ len - 0 = omega arith in
-    ⊎_elim
-    (λ (h : len < length left).
-    let k : len + 1 ≡ len + m = omega arith in
-    ap until_last sp
-    ∙ ap (λ t. until_last (take len left ∷ parts_after 10 t)) (drop_more left len 0 h)
-    ∙ until-more 10 (take len left) [] (drop (len + 1) left)
-    ∙ ap (λ n. take n left ∷ lines_of (drop (len + 1) left)) z
-    ∙ ap (λ n. take (len - 0) left ∷ lines_of (drop n left)) k
-    ∙ ap (λ t. take (len - 0) left ∷ lines_of t) (sym (take_rest left (len + m))))
-    (λ (h : length left ≤ len).
-    let all : take len left ≡ left = take_all len left h in
-    let long : 0 < length (take len left) = omega (arith, ap length all) in
-    ap until_last sp
-    ∙ ap (λ t. until_last (take len left ∷ parts_after 10 t)) (drop_all len left h)
-    ∙ cond-false (eqb (length (take len left)) 0) [] (take len left ∷ []) (ne_eqb (length (take len left)) 0 (omega arith))
-    ∙ ap (λ n. take n left ∷ lines_of []) z
-    ∙ ap (λ t. take (len - 0) left ∷ lines_of t) (sym (take_rest left (len + m) ∙ drop_all (len + m) left (omega arith))))
-    (cases_lt len (length left))
-
-pub lines_none : (left : List ℕ) → length left ≡ 0 → lines_of left ≡ []
-lines_none [] h = refl
-lines_none (c ∷ cs) h = absurd (omega arith)
-
--- F is what the lines that are left give, and g what the first of them gives
-pub lines-on : {A : Type 0} (F : List (List ℕ) → List A) (g : List ℕ → List A) → ((l : List ℕ) (ls : List (List ℕ)) → F (l ∷ ls) ≡ g l ++ F ls)
-    → (text more all : List A) (l : List ℕ) (lines ls : List (List ℕ)) → lines ≡ l ∷ ls → text ++ F lines ≡ all → more ≡ text ++ g l → more ++ F ls ≡ all
-lines-on F g step text more all l lines ls e inv m =
-    ap (λ t. t ++ F ls) m ∙ append_assoc text (g l) (F ls) ∙ ap (λ t. text ++ t) (sym (step l ls)) ∙ ap (λ t. text ++ F t) (sym e) ∙ inv
+    (λ (h : i < length text).
+    let at : get_or line i 0 ≡ 10 = sym (get_or_append_left line rest 0 i (omega arith)) ∙ ap (λ t. get_or t i 0) (sym whole) ∙ eqb-true (get_or text i 0) 10 (first.1 h 0) in
+    absurd (none (take i line) (sym (take_all (i + 1) line (omega arith)) ∙ take_more line i 0 (omega arith) ∙ ap (λ c. take i line ++ c ∷ []) at)))
+    (λ (h : length text ≤ i).
+    let end : rest ≡ [] = nil_from_length rest (omega arith) in
+    let e : text ≡ kept = whole ∙ ap (λ r. line ++ r) end ∙ append-nil line ∙ sym same in
+    last-first text some (λ k d g. first.0 k d (omega arith) (omega arith)) ∙ ap (λ t. t ∷ lines_of []) e ∙ ap (λ r. kept ∷ lines_of r) (sym end))
+    (cases_lt i (length text))

@@ -1,4 +1,4 @@
 mod Cuts
-mod Shown
+mod Parts
 mod Steps
-mod Texts
+mod Words

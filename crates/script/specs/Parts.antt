@@ -1,5 +1,6 @@
 -- A text in parts, and lists that are read part by part. Assumes nothing.
-use Rattle.std.specs.Prelude.{ℕ, cond, List, [], ◌∷◌, ◌++◌, Some, None, Option, ◌==◌}
+use Rattle.std.specs.Prelude.{ℕ, cond, List, [], ◌∷◌, ◌++◌, map, Some, None, Option, ◌==◌}
+use Rattle.std.specs.Borrow.{Bor}
 
 -- the parts of a text, where `part` was read before it
 abbrev pub split_from : ℕ → List ℕ → List ℕ → List (List ℕ)
@@ -11,10 +12,9 @@ split_from separator part (c ∷ cs) =
 abbrev pub split : ℕ → List ℕ → List (List ℕ)
 split separator text = split_from separator [] text
 
--- the parts past the end of a part: none at the end of the text, else those behind the separator
-abbrev pub parts_after : ℕ → List ℕ → List (List ℕ)
-parts_after separator [] = []
-parts_after separator (c ∷ cs) = split separator cs
+-- the bytes behind each `&[u8]`
+abbrev pub texts_of : List (Bor (List ℕ)) → List (List ℕ)
+texts_of parts = map (λ part. part.now) parts
 
 -- an element in front of others, if all can be read
 abbrev pub onto : {X : Type 0} → Option X → Option (List X) → Option (List X)

@@ -1,31 +1,17 @@
 // Bytes in hexadecimal digits.
-ghost use Rattle.std.specs.Prelude.{◌≡◌, ◌≤◌, IfSome, IfOk, vec_items};
+ghost use Rattle.std.specs.Prelude.{◌≡◌, IfOk, vec_items};
 ghost use Rattle.std.specs.Option.{option_map};
 ghost use Rattle.script.specs.Numbers.{hex_digit, byte_by, bytes_in};
 
 use std::alloc::{AllocError, Global};
 
-fn hex_digit(c: u8) -> Option<u8>
-    ensures value { result ≡ hex_digit c }
-    ensures most { IfSome result (λ d. d ≤ 15) }
-{
-    if 48 <= c && c <= 57 {
-        Some(c - 48)
-    } else if 97 <= c && c <= 102 {
-        Some(c - 87)
-    } else if 65 <= c && c <= 70 {
-        Some(c - 55)
-    } else {
-        None
-    }
-}
-
+// The byte that two digits write, in either case.
 fn hex_byte(high: u8, low: u8) -> Option<u8>
     ensures { result ≡ byte_by (hex_digit high) (hex_digit low) }
 {
-    let h = hex_digit(high)?;
-    let l = hex_digit(low)?;
-    Some(16 * h + l)
+    let high = char::from(high).to_digit(16)?;
+    let low = char::from(low).to_digit(16)?;
+    Some((16 * high + low) as u8)
 }
 
 // The bytes of a file, if the digits come in pairs.
@@ -41,9 +27,5 @@ pub(crate) fn bytes_in(heap: Global, digits: &[u8]) -> Result<Option<Vec<u8>>, A
         bytes.push(byte)?;
         left = rest;
     }
-    if left.is_empty() {
-        Ok(Some(bytes))
-    } else {
-        Ok(None)
-    }
+    Ok(left.is_empty().then_some(bytes))
 }

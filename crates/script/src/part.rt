@@ -1,16 +1,12 @@
-// The parts of a text.
-ghost use Rattle.std.specs.Prelude.{◌≡◌, ◌≤◌, ◌∷◌, length, take, drop};
-ghost use Rattle.script.specs.Parts.{split, parts_after};
+// The parts of a line.
+ghost use Rattle.std.specs.Prelude.{◌≡◌, IfOk};
+ghost use Rattle.script.specs.Parts.{split, texts_of};
 
-// The length of the first part: up to the separator, or all of the text.
-pub(crate) fn part_len(text: &[u8], separator: u8) -> usize
-    ensures parts { split separator text.now ≡ take result text.now ∷ parts_after separator (drop result text.now) }
-    ensures bound { result ≤ length text.now }
+use std::alloc::{AllocError, Global};
+
+// What stands between single spaces.
+pub(crate) fn parts_in(heap: Global, line: &[u8]) -> Result<Vec<&[u8]>, AllocError>
+    ensures { IfOk result (λ parts. texts_of parts.items ≡ split 32 line.now) }
 {
-    for (i, c) in text.iter().enumerate() {
-        if *c == separator {
-            return i;
-        }
-    }
-    text.len()
+    line.split(|c| *c == b' ').collect(heap)
 }

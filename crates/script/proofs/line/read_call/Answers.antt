@@ -1,15 +1,51 @@
-use Rattle.std.proofs.Common.{sym, ◌∙◌}
-use Rattle.std.specs.Option.{option_map}
-use Rattle.calls.specs.Written.{call_in}
-use Rattle.script.specs.Parts.{parts_after}
-use Rattle.script.proofs.Steps.{by-bench, made-same}
+use Rattle.std.proofs.Common.{◌≡◌, codes, arith, rules}
+use Rattle.std.proofs.lemmas.Slice.Eq.{text_from_reads}
+use Rattle.script.specs.Parts.{texts_of}
+use Rattle.script.proofs.Words.{call_by_none}
 use Rattle.script.proofs.line.read_call.Goals as goal
 
-pub returns-then-is_word-6 : goal.returns-then-is_word-6
-returns-then-is_word-6 c =
-    made-same (option_map call_in) _ _ _
-    (by-bench c.args.word.now (parts_after 32 c.args.rest.now)
-    (sym c.is_word.ensures ∙ c.if-is_word.false) (sym c.is_word-else-is_word.ensures ∙ c.if-is_word-2.false)
-    (sym c.is_word-else-is_word-2.ensures ∙ c.if-is_word-3.false) (sym c.is_word-else-is_word-3.ensures ∙ c.if-is_word-4.false)
-    (sym c.is_word-else-is_word-4.ensures ∙ c.if-is_word-5.false) (sym c.is_word-else-is_word-5.ensures ∙ c.if-is_word-6.true))
-    c.read_bench.ensures
+pub returns-in-certificate : goal.returns-in-certificate
+returns-in-certificate c =
+    let w : c.args.word.now ≡ codes "certificate" = text_from_reads c.args.word.now (codes "certificate") (omega arith) (omega arith) in
+    rw w c.read_certificate.ensures
+
+pub returns-in_default : goal.returns-in_default
+returns-in_default c =
+    let none = call_by_none c.args.word.now (texts_of c.args.parts.now) in
+    elim c.in_default.branch [
+      | goal.in_default-via-then-word-lt4 w ↦ none (search rules)
+      | goal.in_default-via-else-word-lt4+then-word-lt5+in-108+in-111+in-97+in_default-1 w ↦ none (search rules)
+      | goal.in_default-via-else-word-lt4+then-word-lt5+in-108+in-111+in_default-1 w ↦ none (search rules)
+      | goal.in_default-via-else-word-lt4+then-word-lt5+in-108+in_default-1 w ↦ none (search rules)
+      | goal.in_default-via-else-word-lt4+then-word-lt5+in_default-1 w ↦ none (search rules)
+      | goal.in_default-via-else-word-lt4+else-word-lt5+then-word-lt6+in-102+in-114+in-97+in-109+in_default-1 w ↦ none (search rules)
+      | goal.in_default-via-else-word-lt4+else-word-lt5+then-word-lt6+in-102+in-114+in-97+in_default-1 w ↦ none (search rules)
+      | goal.in_default-via-else-word-lt4+else-word-lt5+then-word-lt6+in-102+in-114+in_default-1 w ↦ none (search rules)
+      | goal.in_default-via-else-word-lt4+else-word-lt5+then-word-lt6+in-102+in_default-1 w ↦ none (search rules)
+      | goal.in_default-via-else-word-lt4+else-word-lt5+then-word-lt6+in-114+in-101+in-115+in-101-word-12+in_default-1 w ↦ none (search rules)
+      | goal.in_default-via-else-word-lt4+else-word-lt5+then-word-lt6+in-114+in-101+in-115+in_default-1 w ↦ none (search rules)
+      | goal.in_default-via-else-word-lt4+else-word-lt5+then-word-lt6+in-114+in-101+in_default-1 w ↦ none (search rules)
+      | goal.in_default-via-else-word-lt4+else-word-lt5+then-word-lt6+in-114+in_default-1 w ↦ none (search rules)
+      | goal.in_default-via-else-word-lt4+else-word-lt5+then-word-lt6+in-115+in-116+in-97+in-116-word-16+in_default-1 w ↦ none (search rules)
+      | goal.in_default-via-else-word-lt4+else-word-lt5+then-word-lt6+in-115+in-116+in-97+in_default-1 w ↦ none (search rules)
+      | goal.in_default-via-else-word-lt4+else-word-lt5+then-word-lt6+in-115+in-116+in_default-1 w ↦ none (search rules)
+      | goal.in_default-via-else-word-lt4+else-word-lt5+then-word-lt6+in-115+in_default-1 w ↦ none (search rules)
+      | goal.in_default-via-else-word-lt4+else-word-lt5+then-word-lt6+in-98+in-101+in-110+in-99+in_default-1 w ↦ none (search rules)
+      | goal.in_default-via-else-word-lt4+else-word-lt5+then-word-lt6+in-98+in-101+in-110+in_default-1 w ↦ none (search rules)
+      | goal.in_default-via-else-word-lt4+else-word-lt5+then-word-lt6+in-98+in-101+in_default-1 w ↦ none (search rules)
+      | goal.in_default-via-else-word-lt4+else-word-lt5+then-word-lt6+in-98+in_default-1 w ↦ none (search rules)
+      | goal.in_default-via-else-word-lt4+else-word-lt5+then-word-lt6+in_default-1 w ↦ none (search rules)
+      | goal.in_default-via-else-word-lt4+else-word-lt5+else-word-lt6+then-word-lt11 w ↦ none (search rules)
+      | goal.in_default-via-else-word-lt4+else-word-lt5+else-word-lt6+else-word-lt11+then-word-lt12+in-99+in-101+in-114+in-116+in-105+in-102+in-105-word-28+in-99-word-29+in-97+in-116-word-31+in_default-1 w ↦ none (search rules)
+      | goal.in_default-via-else-word-lt4+else-word-lt5+else-word-lt6+else-word-lt11+then-word-lt12+in-99+in-101+in-114+in-116+in-105+in-102+in-105-word-28+in-99-word-29+in-97+in_default-1 w ↦ none (search rules)
+      | goal.in_default-via-else-word-lt4+else-word-lt5+else-word-lt6+else-word-lt11+then-word-lt12+in-99+in-101+in-114+in-116+in-105+in-102+in-105-word-28+in-99-word-29+in_default-1 w ↦ none (search rules)
+      | goal.in_default-via-else-word-lt4+else-word-lt5+else-word-lt6+else-word-lt11+then-word-lt12+in-99+in-101+in-114+in-116+in-105+in-102+in-105-word-28+in_default-1 w ↦ none (search rules)
+      | goal.in_default-via-else-word-lt4+else-word-lt5+else-word-lt6+else-word-lt11+then-word-lt12+in-99+in-101+in-114+in-116+in-105+in-102+in_default-1 w ↦ none (search rules)
+      | goal.in_default-via-else-word-lt4+else-word-lt5+else-word-lt6+else-word-lt11+then-word-lt12+in-99+in-101+in-114+in-116+in-105+in_default-1 w ↦ none (search rules)
+      | goal.in_default-via-else-word-lt4+else-word-lt5+else-word-lt6+else-word-lt11+then-word-lt12+in-99+in-101+in-114+in-116+in_default-1 w ↦ none (search rules)
+      | goal.in_default-via-else-word-lt4+else-word-lt5+else-word-lt6+else-word-lt11+then-word-lt12+in-99+in-101+in-114+in_default-1 w ↦ none (search rules)
+      | goal.in_default-via-else-word-lt4+else-word-lt5+else-word-lt6+else-word-lt11+then-word-lt12+in-99+in-101+in_default-1 w ↦ none (search rules)
+      | goal.in_default-via-else-word-lt4+else-word-lt5+else-word-lt6+else-word-lt11+then-word-lt12+in-99+in_default-1 w ↦ none (search rules)
+      | goal.in_default-via-else-word-lt4+else-word-lt5+else-word-lt6+else-word-lt11+then-word-lt12+in_default-1 w ↦ none (search rules)
+      | goal.in_default-via-else-word-lt4+else-word-lt5+else-word-lt6+else-word-lt11+else-word-lt12 w ↦ none (search rules)
+    ]

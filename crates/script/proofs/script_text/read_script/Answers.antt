@@ -1,31 +1,20 @@
-use Rattle.std.proofs.Common.{◌≡◌, ◌-◌, ◌<◌, min, [], ◌∷◌, ◌++◌, map, length, take, drop, is_some, vec_items, sym, refl, ap, ◌∙◌, append-nil, arith}
-use Rattle.std.specs.Option.{option_to_list}
-use Rattle.std.proofs.lemmas.Bool.Decides.{nat_tests}
-use Rattle.calls.specs.Written.{call_in}
-use Rattle.script.specs.Lines.{call_of}
-use Rattle.script.specs.Scripts.{lines_of, flags_of, calls_of}
-use Rattle.script.proofs.Cuts.{lines_more, lines_none, lines-on}
+use Rattle.std.proofs.Common.{◌≡◌, ◌∷◌, eqb, append_assoc, rules, tests}
+use Rattle.std.proofs.lemmas.Bool.Decides.{Decides-eqb}
+use Rattle.std.proofs.lemmas.List.Sorted.{answers_always}
+use Rattle.std.proofs.lemmas.Slice.Eq.{strip_suffix_is}
+use Rattle.script.specs.Scripts.{lines_of}
+use Rattle.script.proofs.Cuts.{stripped, lines_of_first}
 use Rattle.script.proofs.script_text.read_script.Goals as goal
 
-pub loop-left-preserved : goal.loop-left-preserved
-loop-left-preserved c =
-    let left = c.loop-left.left.now in
-    let some : 0 < length left = grind (arith, nat_tests) in
-    let len = c.part_len-len.result in
-    let cut = lines_more left len (min (length left - len) 1) some c.part_len-len.ensures.bound refl c.part_len-len.ensures.parts
-    ∙ ap (λ n. take (len - 0) left ∷ lines_of (take (length left - n) (drop n left))) (sym c.next_start-next.ensures) in (
-      lines-on flags_of (λ l. is_some (call_of l) ∷ []) (λ l ls. refl) _ _ _ _ _ _ cut c.loop-left.invariant.0 c.in_ok-add_line.ensures.flags,
-      lines-on calls_of (λ l. option_to_list (call_of l)) (λ l ls. refl) _ _ _ _ _ _ cut c.loop-left.invariant.1 c.in_ok-add_line.ensures.calls,
-    )
-
-pub returns : goal.returns
-returns c =
-    let left = c.loop-left.left.now in
-    let flags = vec_items c.loop-left.well_formed in
-    let calls = map call_in (vec_items c.loop-left.requests) in
-    let none : length left ≡ 0 = grind (arith, nat_tests) in
-    let cut = sym (lines_none left none) in
-    record {
-      flags = sym (append-nil flags) ∙ ap (λ ls. flags ++ flags_of ls) cut ∙ c.loop-left.invariant.0;
-      calls = sym (append-nil calls) ∙ ap (λ ls. calls ++ calls_of ls) cut ∙ c.loop-left.invariant.1;
-    }
+pub loop-line-preserved : goal.loop-line-preserved
+loop-line-preserved c =
+    let left = c.loop-line.line-iterator.rest.now in
+    let rest = c.next.new.self.rest.now in
+    let s = c.in-Some.ensures.steps in
+    let first = (s.1.2 (λ x. eqb x 10) (answers_always _ _ _ (λ f a r g h. search (rules, tests)))).1 in
+    let kept = stripped c.in-Some.line c.strip_suffix.result (strip_suffix_is Decides-eqb c.in-Some.line.now _ c.strip_suffix.result c.strip_suffix.ensures.cases) in
+    let cut : lines_of left ≡ c.unwrap_or-line.result.now ∷ lines_of rest =
+    simp c.unwrap_or-line.ensures (lines_of_first left c.in-Some.line.now rest _ s.1.0 s.0 s.2 s.1.1 first kept) in
+    let flags = c.in_ok-add_line.ensures.flags in
+    let calls = c.in_ok-add_line.ensures.calls in
+    (simp (flags, append_assoc) (simp cut at c.loop-line.invariant.0), simp (calls, append_assoc) (simp cut at c.loop-line.invariant.1))
