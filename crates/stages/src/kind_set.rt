@@ -17,12 +17,7 @@ pub trait KindSet {
         ensures { result ≡ is_some (meaning self.now number) };
 
     // The wires after a stage.
-    fn judge(
-        &self,
-        number: u8,
-        stage: Stage<'_>,
-        wires: &[WireRow],
-    ) -> Result<Wires, KindRefusal>
+    fn judge(&self, number: u8, stage: Stage<'_>, wires: &[WireRow]) -> Result<Wires, KindRefusal>
         requires { Given (setting_in stage) wires.now }
         ensures { map_ok wires_in result ≡ wires_by (kind_of (meaning self.now number)) (setting_in stage.entry) wires.now };
 

@@ -24,12 +24,7 @@ impl<A: KindSet, B: KindSet> KindSet for Pair<A, B> {
         self.first.knows(number) || self.second.knows(number)
     }
 
-    fn judge(
-        &self,
-        number: u8,
-        stage: Stage<'_>,
-        wires: &[WireRow],
-    ) -> Result<Wires, KindRefusal> {
+    fn judge(&self, number: u8, stage: Stage<'_>, wires: &[WireRow]) -> Result<Wires, KindRefusal> {
         let Pair { first, second } = self;
         if first.knows(number) {
             first.judge(number, stage, wires)
