@@ -36,6 +36,15 @@ module _ (s : Scales) (l : Layout) (bytes : List ℕ) (w : ℕ) (xs : List WireR
       let one = leads-at i a.0 a.2 in
       subst (AllProper s.wy) a.4 (one.proper, rows-proper (i + 1) n a.1 a.3)
 
+  -- they stand in the shape that the layout and the formats give
+  pub rows_stand : (n : ℕ) (ys : List WireRow) → IsFormat s.wy s.fy → Windows l n → wires_by s l bytes xs ≡ Ok ys
+      → Stands (record { count = l.outputs; word = s.wy; fraction = s.fy }) ys
+  rows_stand n ys f v e = record {
+    sized = record { least = v.least; most = v.most; format = f };
+    many = outputs-many (row_at (row_wire s) l bytes xs) 0 l.outputs ys e;
+    proper = rows-proper 0 l.outputs ys e;
+  }
+
   pub rows_run : (i n : ℕ) (ys : List WireRow) (cs : List ℤ) → Inside xs cs
       → outputs_from (row_at (row_wire s) l bytes xs) i n ≡ Ok ys
       → (ds : List ℤ) × (outputs_from (row_at (row_code s) l bytes cs) i n ≡ Ok ds) × Inside ys ds
@@ -101,13 +110,8 @@ leads-in s (Some l) xs ys given good e =
     let fits = passed (scales_fit t) (wires_by t l s.bytes xs) Format ys long.1 in
     let deep = shifts t fits.0 in
     let stands = given.stands in
-    let many = outputs-many (row_at (row_wire t) l s.bytes xs) 0 l.outputs ys fits.1 in
     record {
-      stands = record {
-        sized = record { least = w.least; most = w.most; format = output-format t fits.0 };
-        many = many;
-        proper = rows-proper t l s.bytes s.before.word xs deep.0 deep.1 stands.proper 0 l.outputs ys fits.1;
-      };
+      stands = rows_stand t l s.bytes s.before.word xs deep.0 deep.1 stands.proper _ ys (output-format t fits.0) w fits.1;
       runs = λ cs i. rows_run t l s.bytes s.before.word xs deep.0 deep.1 stands.proper 0 l.outputs ys cs i fits.1;
       carries = λ d cs ds Xs r held.
           rows-carry t l s.bytes s.before.word xs deep.0 deep.1 stands.proper 0 l.outputs d ys cs ds Xs held fits.1 r;

@@ -26,7 +26,7 @@ pub(crate) trait Quantity: Copy {
     fn from_bias(bias: i64) -> Self
         ensures { result ≡ biased bias };
 
-    fn sum(self, other: Self) -> Self
+    fn plus(self, other: Self) -> Self
         requires { (fitting 56 self ≡ true) × (small other) }
         ensures { result ≡ plus self other };
 
@@ -59,7 +59,7 @@ impl Quantity for i64 {
         bias
     }
 
-    fn sum(self, other: i64) -> i64 {
+    fn plus(self, other: i64) -> i64 {
         self + other
     }
 
@@ -94,10 +94,10 @@ impl Quantity for SumRange {
         }
     }
 
-    fn sum(self, other: SumRange) -> SumRange {
+    fn plus(self, other: SumRange) -> SumRange {
         SumRange {
-            low: self.low.sum(other.low),
-            high: self.high.sum(other.high),
+            low: self.low.plus(other.low),
+            high: self.high.plus(other.high),
         }
     }
 

@@ -43,8 +43,7 @@ pub(crate) fn judge_plan<'a, P: Plan>(
     if stage.bytes.len() != 6 + 4 * usize::from(layout.numbers) {
         return Err(KindRefusal::Length);
     }
-    let scales = scales_in(stage);
-    let format = RowFormat::new(scales).ok_or(KindRefusal::Format)?;
+    let format = RowFormat::new(scales_in(stage)).ok_or(KindRefusal::Format)?;
     let outputs = Outputs {
         format,
         coefficients: Coefficients {
@@ -57,8 +56,8 @@ pub(crate) fn judge_plan<'a, P: Plan>(
     Ok(Wires {
         shape: Shape {
             count: layout.outputs,
-            word: scales.wy,
-            fraction: scales.fy,
+            word: format.scales.wy,
+            fraction: format.scales.fy,
         },
         rows,
     })

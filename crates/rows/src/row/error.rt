@@ -22,9 +22,7 @@ fn remainder(value: i32, places: u8) -> u64
     ensures value { result ≡ remainder value places }
     ensures bound { result ≤ 2 ^ 24 }
 {
-    i64::from(value)
-        .rem_euclid(i64::from(unit(places)))
-        .unsigned_abs()
+    i64::from(value).rem_euclid(i64::from(unit(places))) as u64
 }
 
 // The largest magnitude of a wire in grains.

@@ -17,7 +17,7 @@ impl<V: Copy> Row<'_, V> {
             if !sum.fits(bits) {
                 return None;
             }
-            sum = sum.sum(Q::product(self.format.weight_code(*weight), *input));
+            sum = sum.plus(Q::product(self.format.weight_code(*weight), *input));
         }
         sum.fits(bits).then_some(sum)
     }

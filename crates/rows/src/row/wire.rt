@@ -28,11 +28,9 @@ impl Row<'_, WireRow> {
     fn weights_fit(&self) -> bool
         ensures { result ≡ list_all (λ w. fits_word self.now.format.scales.ww (weight_code self.now.format.scales w)) self.now.weights.now }
     {
-        let word = u32::from(self.format.scales.ww);
-        self.weights.iter().all(|weight| fits_word(
-            i64::from(self.format.weight_code(*weight)),
-            word,
-        ))
+        let format = self.format;
+        let word = u32::from(format.scales.ww);
+        self.weights.iter().all(|weight| fits_word(i64::from(format.weight_code(*weight)), word))
     }
 }
 
