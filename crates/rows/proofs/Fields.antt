@@ -1,7 +1,8 @@
 -- The laws of full and taps in the words of their field.
-use Rattle.std.proofs.Common.{◌≡◌, ℕ, zero, suc, ◌+◌, ◌-◌, ◌*◌, ◌^◌, ◌<◌, Bool, true, false, cond, ◌&&◌, eqb, leb, List, [], ◌∷◌, map, length, get_or, take, drop, ℤ, pos, ◌+ℤ◌, ◌*ℤ◌, Some, None, Ok, Err, Result, sym, refl, ap, ◌∙◌, subst, ap₂, arith}
+use Rattle.std.proofs.Common.{◌≡◌, ℕ, zero, suc, ◌+◌, ◌-◌, ◌*◌, ◌^◌, ◌<◌, cond, ◌&&◌, eqb, leb, List, [], ◌∷◌, map, length, get_or, take, drop, ℤ, pos, ◌+ℤ◌, ◌*ℤ◌, Some, Ok, Err, Result, sym, refl, ap, ◌∙◌, subst, ap₂, arith}
 use Rattle.std.specs.List.{range_with_len}
 use Rattle.std.proofs.lemmas.List.{take_all, drop_more}
+use Rattle.std.proofs.lemmas.Option.{cond_some}
 use Rattle.fixed.specs.Steps.{and_then}
 use Rattle.stages.specs.Kind.{exactly}
 use Rattle.stages.specs.declared.shape.KindRefusal.TheVariants.{Format, Length}
@@ -13,11 +14,6 @@ use Rattle.rows.specs.Layout.{number_at, row_at, outputs_from, wires_by, codes_b
 use Rattle.rows.specs.Scales.{scales_fit}
 use Rattle.rows.specs.Plan.{scales_in, wires_in, codes_in, after_in, exact_in}
 use Rattle.rows.specs.Laws.{sum_from, FullIsProduct, TapsIsWindow, TapsIsFull}
-
--- the layout that a plan gives
-planned : (t : Bool) (l m : Layout) → cond t (Some l) None ≡ Some m → l ≡ m
-planned true l m e = cc
-planned false l m e = let z : ◌≡◌ {A = ℕ} 0 1 = cc in absurd (omega arith)
 
 -- the sum of products, by places
 dot-by-places : (f : ℕ → ℤ) (Xs : List ℤ) (i n : ℕ) → length Xs ≡ i + n
@@ -36,7 +32,7 @@ same_map f g (x ∷ xs) h = ap₂ ◌∷◌ (h x) (same_map f g xs h)
 pub full-is-product : FullIsProduct
 full-is-product k n d l bytes Xs e many =
     subst (λ (m : Layout). exact_by m bytes d Xs ≡ map (λ o. sum_from (λ j. number_at bytes (o * n + j) *ℤ get_or Xs j (pos 0)) 0 n +ℤ number_at bytes (k * n + o) *ℤ pos (2 ^ (24 * (d + 1)))) (range_with_len 0 k))
-    (planned _ _ l e)
+    (cond_some _ _ l e).1
     (same_map _ _ (range_with_len 0 k) (λ o.
     let start : o * 0 ≡ 0 = omega arith in
     let place : k * n + o * 1 ≡ k * n + o = omega arith in
@@ -48,7 +44,7 @@ full-is-product k n d l bytes Xs e many =
 pub taps-is-window : TapsIsWindow
 taps-is-window k n d l bytes Xs e =
     subst (λ (m : Layout). exact_by m bytes d Xs ≡ map (λ o. row_exact (map (number_at bytes) (range_with_len 0 k)) (number_at bytes k) d (take k (drop o Xs))) (range_with_len 0 (n - k + 1)))
-    (planned _ _ l e)
+    (cond_some _ _ l e).1
     (same_map _ _ (range_with_len 0 (n - k + 1)) (λ o.
     let place : (j : ℕ) → o * 0 + j ≡ j = λ j. omega arith in
     let one : o * 1 ≡ o = omega arith in
@@ -98,8 +94,8 @@ pub taps-is-full : TapsIsFull
 taps-is-full n t f p q s =
     let one : n - n + 1 ≡ 1 = omega arith in
     let numbers : n + 1 ≡ 1 * n + 1 = omega arith in
-    let a = planned _ (taps_of n) t p in
-    let b = planned (leb 1 1 && leb 1 64) (full_of n) f q in
+    let a = (cond_some _ (taps_of n) t p).1 in
+    let b = (cond_some (leb 1 1 && leb 1 64) (full_of n) f q).1 in
     let test = ap (λ k. eqb (length s.bytes) (6 + 4 * k)) numbers in (
       λ xs. moved (λ (l : Layout). wires_in s xs (Some l)) a b (ap₂ (λ c w. cond c (cond (scales_fit (scales_in s)) w (Err Format)) (Err Length)) test (full-wires (scales_in s) n s.bytes xs)),
       λ cs. moved (λ (l : Layout). codes_in s cs (Some l)) a b (full-codes (scales_in s) n s.bytes cs),

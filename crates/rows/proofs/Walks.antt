@@ -1,5 +1,5 @@
 -- The ends of walks over two lists: where either is at its end.
-use Rattle.std.proofs.Common.{◌≡◌, ℕ, Bool, true, false, cond, List, [], ◌∷◌, map, ℤ, Some, None, ◌⊎◌, inl, inr, refl}
+use Rattle.std.proofs.Common.{◌≡◌, Bool, true, false, cond, List, [], ◌∷◌, map, ℤ, Some, None, ◌⊎◌, inl, inr, refl}
 use Rattle.std.specs.Bool.{then_some}
 use Rattle.fixed.specs.declared.row.WireRow.{WireRow}
 use Rattle.rows.specs.declared.scales.Scales.{Scales}

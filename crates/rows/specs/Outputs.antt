@@ -2,7 +2,6 @@
 use Rattle.std.specs.Prelude.{◌≡◌, ℕ, zero, suc, ◌+◌, ◌<◌, List, [], ◌∷◌, ◌++◌, length, Ok, Err, Result}
 use Rattle.std.proofs.Common.{ap, sym, ◌∙◌, arith}
 use Rattle.fixed.proofs.Chains.{then_ok}
-use Rattle.fixed.specs.Steps.{and_then}
 use Rattle.rows.specs.Layout.{outputs_from}
 
 module _ {Y E : Type 0} (f : ℕ → Result Y E) where

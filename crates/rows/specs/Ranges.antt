@@ -66,7 +66,7 @@ in_shift r k z h = (floor-mono k r.low z h.0, floor-mono k z r.high h.1)
 -- a walk that goes on has passed its test
 passed : {Q : Type 0} (t : Bool) (o : Option Q) (q : Q) → cond t o None ≡ Some q → (t ≡ true) × (o ≡ Some q)
 passed true o q e = (refl, e)
-passed false o q e = let z : ◌≡◌ {A = ℕ} 0 1 = cc in absurd (omega arith)
+passed false o q e = cc
 
 -- the end of a walk of codes, and of ranges
 last_sum : (test : ℤ → Bool) (a z : ℤ) → tested test a ≡ Some z → z ≡ a +ℤ pos 0

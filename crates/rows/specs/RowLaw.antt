@@ -124,9 +124,9 @@ record Passed (s : Scales) (ws : List ℤ) (b : ℤ) (xs : List WireRow) (y : Wi
   pub is : y ≡ wire_with (range_shift range (dropped s)).low (range_shift range (dropped s)).high (row_error s ws b xs)
 
 -- a result that is no error has passed its test
-cond-ok : {A E : Type 0} (t : Bool) (r : Result A E) (e : E) (y : A) → cond t r (Err e) ≡ Ok y → (t ≡ true) × (r ≡ Ok y)
+pub cond-ok : {A E : Type 0} (t : Bool) (r : Result A E) (e : E) (y : A) → cond t r (Err e) ≡ Ok y → (t ≡ true) × (r ≡ Ok y)
 cond-ok true r e y p = (refl, p)
-cond-ok false r e y p = let z : ◌≡◌ {A = ℕ} 0 1 = cc in absurd (omega arith)
+cond-ok false r e y p = cc
 
 -- a row that has a wire has passed them
 row-passed : (s : Scales) (o : ℕ) (ws : List ℤ) (b : ℤ) (xs : List WireRow) (y : WireRow)
@@ -135,7 +135,7 @@ row-passed s o ws b xs y e =
     by (range_sum s ws b xs) refl (cond-ok (all_fit s.ww (weight_codes s ws)) (wired s o (row_error s ws b xs) (range_sum s ws b xs)) _ y e).1
   where
     by : (m : Option SumRange) → range_sum s ws b xs ≡ m → wired s o (row_error s ws b xs) m ≡ Ok y → Passed s ws b xs y
-    by None p q = let z : ◌≡◌ {A = ℕ} 0 1 = cc in absurd (omega arith)
+    by None p q = absurd (cc)
     by (Some r) p q =
         let v = wire_with (range_shift r (dropped s)).low (range_shift r (dropped s)).high (row_error s ws b xs) in
         let f = cond-ok (range_fits s.wy (range_shift r (dropped s))) _ _ y q in
@@ -163,7 +163,7 @@ code_is s o ws b cs c e = by (code_sum s ws b cs) refl e
   where
     by : (m : Option ℤ) → code_sum s ws b cs ≡ m → shifted s o m ≡ Ok c
         → c ≡ floor_shift (bias_code s b +ℤ dot (weight_codes s ws) cs) (dropped s)
-    by None p q = let z : ◌≡◌ {A = ℕ} 0 1 = cc in absurd (omega arith)
+    by None p q = absurd (cc)
     by (Some z) p q =
         let f = cond-ok (fits_word s.wy (floor_shift z (dropped s))) (Ok (floor_shift z (dropped s))) _ c q in
         let g : floor_shift z (dropped s) ≡ c = cc f.1 in

@@ -1,5 +1,5 @@
 -- The containment law of a stage of rows.
-use Rattle.std.specs.Prelude.{◌≡◌, ℕ, zero, suc, ◌+◌, ◌*◌, ◌≤◌, Bool, true, false, cond, List, [], ◌∷◌, map, length, ℤ, Some, None, Ok, Err, Option, Result, ◌==◌, refl}
+use Rattle.std.specs.Prelude.{◌≡◌, ℕ, zero, suc, ◌+◌, ◌*◌, ◌≤◌, true, List, [], ◌∷◌, map, length, ℤ, Some, None, Ok, Option, ◌==◌, refl}
 use Rattle.std.proofs.Common.{ap, ◌∙◌, subst, arith}
 use Rattle.std.specs.List.{range_with_len}
 use Rattle.std.proofs.lemmas.List.FromFn.{length-map-range_with_len}
@@ -17,7 +17,7 @@ use Rattle.rows.specs.Row.{row_code, row_wire, row_exact}
 use Rattle.rows.specs.Layout.{weights_at, bias_at, window, outputs_from, row_at, wires_by}
 use Rattle.rows.specs.Plan.{scales_in, plan_in, wires_in, codes_in, after_in, exact_in, rows_kind, Windows, GoodPlan}
 use Rattle.rows.specs.Outputs.{outputs-apart, outputs-many}
-use Rattle.rows.specs.RowLaw.{RowLeads, row-leads}
+use Rattle.rows.specs.RowLaw.{RowLeads, cond-ok, row-leads}
 use Rattle.rows.specs.Windows.{proper-window, inside-window, held-window, held-inside}
 
 -- the rows of a layout over proper wires
@@ -90,10 +90,6 @@ record LeadsIn (s : Setting) (o : Option Layout) (xs ys : List WireRow) : Type 0
   exact_counts : (x : Exact) → length (exact_in s x o).values ≡ (after_in s o).count
 
 -- the checks that wires have passed
-passed : {A E : Type 0} (t : Bool) (r : Result A E) (e : E) (y : A) → cond t r (Err e) ≡ Ok y → (t ≡ true) × (r ≡ Ok y)
-passed true r e y p = (refl, p)
-passed false r e y p = let z : ◌≡◌ {A = ℕ} 0 1 = cc in absurd (omega arith)
-
 shifts : (s : Scales) → scales_fit s ≡ true → (s.fw + s.fx ≤ 24) × (s.fy ≤ s.fw + s.fx)
 shifts s e = (grind (arith, nat_tests), grind (arith, nat_tests))
 
@@ -102,12 +98,12 @@ output-format s e = grind (arith, nat_tests)
 
 leads-in : (s : Setting) (o : Option Layout) (xs ys : List WireRow) → Given s xs
     → ((l : Layout) → o ≡ Some l → Windows l s.before.count) → wires_in s xs o ≡ Ok ys → LeadsIn s o xs ys
-leads-in s None xs ys given good e = let z : ◌≡◌ {A = ℕ} 0 1 = cc in absurd (omega arith)
+leads-in s None xs ys given good e = absurd (cc)
 leads-in s (Some l) xs ys given good e =
     let t = scales_in s in
     let w = good l refl in
-    let long = passed (length s.bytes == 6 + 4 * l.numbers) _ Length ys e in
-    let fits = passed (scales_fit t) (wires_by t l s.bytes xs) Format ys long.1 in
+    let long = cond-ok (length s.bytes == 6 + 4 * l.numbers) _ Length ys e in
+    let fits = cond-ok (scales_fit t) (wires_by t l s.bytes xs) Format ys long.1 in
     let deep = shifts t fits.0 in
     let stands = given.stands in
     record {

@@ -4,9 +4,10 @@ ghost use Rattle.stages.specs.Kind.{map_ok};
 ghost use Rattle.stages.specs.Containment.{Given, Passes};
 ghost use Rattle.stages.specs.Network.{wires_by};
 ghost use Rattle.stages.specs.Wires.{setting_in, wires_in};
-ghost use Rattle.rows.specs.Plan.{rows_kind, scales_in};
+ghost use Rattle.rows.specs.Plan.{rows_kind, scales_in, plan_in};
 
 use crate::coefficients::Coefficients;
+use crate::layout::Layout;
 use crate::outputs::Outputs;
 use crate::plan::Plan;
 use crate::row_format::RowFormat;
@@ -16,6 +17,12 @@ use fixed::row::WireRow;
 use stages::shape::{KindRefusal, RunRefusal, Shape};
 use stages::stage::Stage;
 use stages::wires::{Codes, Wires};
+
+fn layout_in<P: Plan>(stage: Stage<'_>) -> Option<Layout>
+    ensures { result ≡ plan_in P.plan (setting_in stage.entry) }
+{
+    P::layout(u8_at(stage.bytes, 1), stage.before.count)
+}
 
 fn scales_in(stage: Stage<'_>) -> Scales
     ensures { result ≡ scales_in (setting_in stage.entry) }
@@ -38,8 +45,7 @@ pub(crate) fn judge_plan<'a, P: Plan>(
     requires { Given (setting_in stage) wires.now }
     ensures { map_ok wires_in result ≡ wires_by (rows_kind P.plan) (setting_in stage.entry) wires.now }
 {
-    let size = u8_at(stage.bytes, 1);
-    let layout = P::layout(size, stage.before.count).ok_or(KindRefusal::Size)?;
+    let layout = layout_in::<P>(stage).ok_or(KindRefusal::Size)?;
     if stage.bytes.len() != 6 + 4 * usize::from(layout.numbers) {
         return Err(KindRefusal::Length);
     }
@@ -69,8 +75,7 @@ pub(crate) fn run_plan<'a, P: Plan>(stage: Stage<'a>, codes: &'a [i32]) -> Resul
     requires many { length codes.now ≡ stage.before.count }
     ensures { map_ok (λ v. v.items) result ≡ (rows_kind P.plan).code (setting_in stage.entry) codes.now }
 {
-    let size = u8_at(stage.bytes, 1);
-    let layout = P::layout(size, stage.before.count).unwrap();
+    let layout = layout_in::<P>(stage).unwrap();
     let format = RowFormat::new(scales_in(stage)).unwrap();
     let outputs = Outputs {
         format,
