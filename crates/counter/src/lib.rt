@@ -38,10 +38,5 @@ pub fn step(output: Output, status: Status) -> Status
 pub fn idle_status() -> Status
     ensures { result ≡ idle }
 {
-    Status {
-        code: 0,
-        picked: false,
-        count: 0,
-        trip: false,
-    }
+    Status::default()
 }

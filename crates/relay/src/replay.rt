@@ -28,7 +28,8 @@ fn certificate_reply<K: KindSet>(
     Ok(Reply::Certificate { answer, buffer })
 }
 
-// A bench, into a fresh buffer.
+// A bench, into a fresh buffer. One function for both would take the call as a closure, say of the buffer what the closure does, and
+// leave the replies to be put together apart: no plainer.
 fn bench_reply<K: KindSet>(
     heap: Global,
     relay: &Relay<K>,

@@ -52,6 +52,7 @@ fn certificate_text(
     format!(in heap; "stage {stage}: {count} wires\n{rows}")
 }
 
+// Apart from the rows of a certificate: one function for both would take the text of the rows as a closure, and be no shorter.
 fn bench_text(heap: Global, stage: u32, count: usize, buffer: &[i32]) -> Result<String, AllocError>
     ensures { IfOk result (λ s. string_bytes s ≡ written_text stage count (call.codes buffer.now)) }
 {

@@ -1,7 +1,6 @@
 -- The parts of an accepted head.
-use Rattle.std.proofs.Common.{◌≡◌, ℕ, ◌+◌, ◌*◌, ◌≤◌, Bool, true, false, cond, List, ◌++◌, length, get_or, take, drop, Some, None, Ok, Err, Option, Result, sym, refl, ap, ◌∙◌, subst, ap₂, arith, length-drop, length-take}
-use Rattle.std.proofs.lemmas.List.{drop-drop, take_at}
-use Rattle.std.proofs.lemmas.List.FromFn.{length-map-range_with_len}
+use Rattle.std.proofs.Common.{◌≡◌, ℕ, ◌+◌, ◌*◌, ◌≤◌, Bool, true, false, cond, List, length, get_or, take, drop, Some, None, Ok, Err, Option, Result, sym, refl, ap, ◌∙◌, subst, ap₂, arith, length-drop, length-take}
+use Rattle.std.proofs.lemmas.List.{drop-drop}
 use Rattle.std.proofs.lemmas.Bool.Decides.{nat_tests}
 use Rattle.fixed.specs.declared.row.WireRow.{WireRow}
 use Rattle.settings.specs.declared.fields.Fields.{Fields}
@@ -11,7 +10,7 @@ use Rattle.fixed.specs.Bytes.{u16_at}
 use Rattle.settings.specs.Records.{Split, split_record}
 use Rattle.settings.specs.Limits.{fields_of, in_limits}
 use Rattle.fixed.specs.Steps.{and_then}
-use Rattle.settings.specs.Head.{input_row, input_rows, is_header, records_of, header_record, first_improper, unless_improper, limited_fields, checked_inputs, checked_fields, head_with, head_from, head_of}
+use Rattle.settings.specs.Head.{input_rows, is_header, records_of, header_record, first_improper, unless_improper, limited_fields, checked_inputs, checked_fields, head_with, head_from, head_of}
 
 pub records-ok : (file xs : List ℕ) → records_of file ≡ Ok xs → xs ≡ drop 1 file
 records-ok file xs e = grind (arith, nat_tests)

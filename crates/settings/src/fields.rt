@@ -41,21 +41,20 @@ impl Fields {
     pub fn counts_fit(&self) -> bool
         ensures { result ≡ counts_fit self.now }
     {
-        1 <= self.inputs && self.inputs <= 64 && 1 <= self.stages && self.stages <= 16
+        matches!(self.inputs, 1..=64) && matches!(self.stages, 1..=16)
     }
 
     pub fn words_fit(&self) -> bool
         ensures { result ≡ words_fit self.now }
     {
         Format::new(self.word, self.fraction).is_some()
-            && 16 <= self.accumulator
-            && self.accumulator <= 56
+            && matches!(self.accumulator, 16..=56)
             && self.allowed_error <= MOST_ERROR
     }
 
     pub fn times_fit(&self) -> bool
         ensures { result ≡ times_fit self.now }
     {
-        1 <= self.rise && 1 <= self.delay && self.delay <= 1_000_000
+        1 <= self.rise && matches!(self.delay, 1..=1_000_000)
     }
 }

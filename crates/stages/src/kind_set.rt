@@ -10,6 +10,7 @@ use crate::stage::Stage;
 use crate::wires::{Codes, Wires};
 use fixed::row::WireRow;
 
+// A kind is asked for by a number and not by an enum: which kinds there are is open, and a file may name one that no set knows.
 pub trait KindSet {
     ghost meaning: { Self → Kinds };
 

@@ -15,6 +15,7 @@ pub struct Pair<A, B> {
     pub second: B,
 }
 
+// `judge` and `run` choose apart: one function that chooses would take two closures for each of them, and be no plainer.
 impl<A: KindSet, B: KindSet> KindSet for Pair<A, B> {
     ghost meaning = { λ s n. or_else (A.KindSet.meaning s.first n) (B.KindSet.meaning s.second n) };
 

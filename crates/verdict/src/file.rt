@@ -1,4 +1,5 @@
-// The verdict on a whole file, through any set of kinds.
+// The verdict on a whole file, through any set of kinds. Kinds and file are two parameters of each public call: a struct of both
+// would be made anew in each call of the relay, for one call.
 ghost use Rattle.std.specs.Prelude.{◌≡◌};
 ghost use Rattle.verdict.specs.Certificate.{Certificate};
 ghost use Rattle.verdict.specs.Verdict.{verdict_of};

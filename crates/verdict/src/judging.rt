@@ -43,7 +43,8 @@ impl<K: KindSet> Network<'_, K> {
         }
     }
 
-    // One stage, by its record.
+    // One stage, by its record. Here a stage is asked for by its index, below 16 as the header says; a type for the index would be
+    // made and taken apart at each step.
     pub(crate) fn judge_record(&self, k: u8, bytes: &[u8], before: &Wires) -> Result<Wires, Refusal>
         requires { k < 16 }
         ensures { map_ok wires_in result ≡ at_stage (k + 1) (wires_after (K.meaning self.now.kinds.now) self.now.header.fields.accumulator bytes.now (wires_in before.now)) }

@@ -21,6 +21,7 @@ pub fn fields_of<K: KindSet>(kinds: &K, file: &[u8]) -> Option<Fields>
 pub(crate) fn refused_or_none<K: KindSet>(kinds: &K, file: &[u8], refusal: Refusal) -> Refusal
     ensures { result ≡ unless_none (loaded_in (K.meaning kinds.now) file.now) refusal }
 {
+    // Both arms are refusals, and one answers no part of the verdict: `map_or` would hide which is which.
     match judge_file(kinds, file) {
         Ok(_) => refusal,
         Err(_) => Refusal::NoFile,

@@ -10,7 +10,7 @@ impl Format {
         ensures test { is_some result ≡ is_format word fraction }
         ensures parts { IfSome result (λ f. (f.word ≡ word) × (f.fraction ≡ fraction)) }
     {
-        let sized = 2 <= word && word <= 24 && fraction <= 20;
+        let sized = matches!(word, 2..=24) && fraction <= 20;
         if sized && fraction < word && word <= fraction + 10 {
             Some(Format { word, fraction })
         } else {

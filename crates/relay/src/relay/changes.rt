@@ -14,6 +14,7 @@ use stages::kind_set::KindSet;
 use verdict::file::judge;
 use verdict::output::works::output_of;
 
+// Each call says that the kinds stay: no type says of a `&mut self` which of its fields do.
 impl<K: KindSet> Relay<K> {
     // No file, count 0, no trip.
     pub fn new(kinds: K) -> Relay<K>

@@ -6,7 +6,7 @@ use super::Row;
 use crate::row_format::RowFormat;
 use fixed::row::WireRow;
 
-// 2^places.
+// 2^places. Here places are at most 24, as formats that go together have it; a type for them would be made at each call.
 #[tactic(auto, using(crate::proofs::Units::unit_most))]
 fn unit(places: u8) -> u32
     requires { places ≤ 24 }

@@ -24,7 +24,8 @@ impl<K: KindSet> Network<'_, K> {
         Ok(Frame { wires, codes })
     }
 
-    // The first stages, from the inputs on.
+    // The first stages, from the inputs on. The loop stands in `judge_stages` too: with the step as a closure, its contract would say
+    // by the closure's what these two lines say.
     pub(crate) fn run_stages(&self, stages: u8, inputs: Frame) -> Result<Frame, Refusal>
         requires { stages ≤ 16 }
         ensures { map_ok frame_in result ≡ frame_from (K.meaning self.now.kinds.now) self.now.header.fields.accumulator self.now.records.now 0 stages (frame_in inputs) }

@@ -17,6 +17,7 @@ use stages::shape::Shape;
 use stages::stage::Stage;
 use stages::wires::Wires;
 
+// It is no `From`: neither of the two types' crates knows the other.
 fn input_shape(fields: Fields) -> Shape
     ensures { result ≡ shape_in fields }
 {
