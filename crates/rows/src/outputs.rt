@@ -26,7 +26,7 @@ impl<V: Evaluated> Outputs<'_, V> {
         ensures { result ≡ row_at (V.row_of self.now.format.scales) self.now.coefficients.layout self.now.coefficients.bytes.now self.now.inputs.now output }
     {
         let layout = self.coefficients.layout;
-        let start = usize::from(output) * usize::from(layout.slide);
+        let start = layout.start(output);
         let end = start + usize::from(layout.length);
         let weights = self.coefficients.weights(output);
         let row = Row {
