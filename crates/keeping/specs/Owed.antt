@@ -89,15 +89,15 @@ keeps o = record {
   held = λ f d p xs cs Xs h. held-out f d (o.along (held-stable f d) p (held-in f d xs cs Xs h));
 }
 
-largest-fits : (p : ℕ) → largest_within p ≡ true → 1 ≤ p
-largest-fits p e = grind (arith, nat_tests)
+pub largest-fits : (p : ℕ) → largest_within p ≡ true → (2 ≤ p) × (p ≤ 64)
+largest-fits p e = (grind (arith, nat_tests), grind (arith, nat_tests))
 
 pub keeps-largest : Keeps (λ p n. largest_within p) largest_outputs (pooled larger_row) (pooled int_max)
 keeps-largest = keeps {outputs = λ X larger rectified. pooled larger} (record {
   sized = λ p n w h k.
-      let o = outputs-sized p n (largest-fits p w) h in
+      let o = outputs-sized p n (omega (arith, (largest-fits p w).0)) h in
       (o.0, omega (arith, o.1));
-  many = λ X larger rectified p n xs w e. length-pooled larger p xs (largest-fits p w) ∙ ap (largest_outputs p) e;
+  many = λ X larger rectified p n xs w e. length-pooled larger p xs (omega (arith, (largest-fits p w).0)) ∙ ap (largest_outputs p) e;
   along = λ stable p t. along-pooled stable p t;
 })
 
@@ -108,14 +108,15 @@ keeps-rectifier = keeps {outputs = λ X larger rectified p. map rectified} (reco
   along = λ stable p t. along-map stable t;
 })
 
-repeat-fits : (s n : ℕ) → repeat_within s n ≡ true → (1 ≤ s) × (n * s ≤ 64)
-repeat-fits s n e = (grind (arith, nat_tests), grind (arith, nat_tests))
+pub repeat-fits : (s n : ℕ) → repeat_within s n ≡ true → (2 ≤ s) × (s ≤ 8) × (n * s ≤ 64)
+repeat-fits s n e = (grind (arith, nat_tests), grind (arith, nat_tests), grind (arith, nat_tests))
 
 pub keeps-repeat : Keeps repeat_within (λ s n. n * s) repeated repeated
 keeps-repeat = keeps {outputs = λ X larger rectified. repeated} (record {
   sized = λ s n w h k.
       let t = repeat-fits s n w in
-      (omega (arith, mul-le-mul h t.0), t.1);
+      let l : 1 ≤ s = omega (arith, t.0) in
+      (omega (arith, mul-le-mul h l), t.2);
   many = λ X larger rectified s n xs w e. length-repeated s xs ∙ ap (λ m. m * s) e;
   along = λ stable s t. along-repeated stable s t;
 })
