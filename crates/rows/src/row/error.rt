@@ -22,7 +22,8 @@ fn remainder(value: i32, places: u8) -> u64
     ensures value { result ≡ remainder value places }
     ensures bound { result ≤ 2 ^ 24 }
 {
-    i64::from(value).rem_euclid(i64::from(unit(places))) as u64
+    // In 32 bits: a division of 64 is slower, and stands in the inner loop.
+    u64::from(value.rem_euclid(unit(places).cast_signed()).unsigned_abs())
 }
 
 // The largest magnitude of a wire in grains.
