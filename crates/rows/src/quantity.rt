@@ -9,6 +9,7 @@ use fixed::row::WireRow;
 use fixed::word::fits_word;
 
 // A bias, a sum, a product of a weight code and an input, and a test for the accumulator's bits.
+// `Add` and `Mul` are no plainer: what a sum asks is said by the trait's own test, so they would need laws that tie them to it.
 pub(crate) trait Quantity: Copy {
     type Input: Copy;
 

@@ -10,7 +10,7 @@ use crate::quantity::Quantity;
 use fixed::floor::floor_shift;
 use stages::shape::RunRefusal;
 
-// The value as a code, if it fits a word of at most 24 bits.
+// The value as a code, if it fits a word of at most 24 bits. `TryFrom` is no plainer, since it tests for 32 bits alone.
 pub(crate) fn code_in(word: u8, value: i64) -> Option<i32>
     requires { word ≤ 24 }
     ensures { result ≡ tested (fits_word word) value }
