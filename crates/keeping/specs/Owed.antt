@@ -1,5 +1,5 @@
 -- What each operation owes for the law of its kind.
-use Rattle.std.specs.Prelude.{◌≡◌, ℕ, ◌*◌, ◌≤◌, Bool, true, List, [], ◌∷◌, map, length, ℤ, nat_eq}
+use Rattle.std.specs.Prelude.{◌≡◌, ℕ, zero, suc, ◌*◌, ◌≤◌, Bool, true, List, [], ◌∷◌, map, length, ℤ, nat_eq}
 use Rattle.std.proofs.Common.{ap, ◌∙◌, arith, mul-le-mul}
 use Rattle.std.specs.Int.{int_max}
 use Rattle.std.proofs.lemmas.List.{length-map}
@@ -120,3 +120,15 @@ keeps-repeat = keeps {outputs = λ X larger rectified. repeated} (record {
   many = λ X larger rectified s n xs w e. length-repeated s xs ∙ ap (λ m. m * s) e;
   along = λ stable s t. along-repeated stable s t;
 })
+
+-- wires stay proper in a word of any width: in one of no bits there are none
+pub proper-pooled : (w p : ℕ) (xs : List WireRow) → AllProper w xs → AllProper w (pooled larger_row p xs)
+unfolding pooled
+proper-pooled zero p [] h = tt
+proper-pooled zero p (x ∷ xs) h = let z : ◌≡◌ {A = ℕ} 0 1 = cc in absurd (omega arith)
+proper-pooled (suc w) p xs h = keeps-largest.proper (suc w) p xs (omega arith) h
+
+pub proper-repeated : (w s : ℕ) (xs : List WireRow) → AllProper w xs → AllProper w (repeated s xs)
+proper-repeated zero s [] h = tt
+proper-repeated zero s (x ∷ xs) h = let z : ◌≡◌ {A = ℕ} 0 1 = cc in absurd (omega arith)
+proper-repeated (suc w) s xs h = keeps-repeat.proper (suc w) s xs (omega arith) h

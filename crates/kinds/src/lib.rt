@@ -5,7 +5,7 @@ ghost use Rattle.std.specs.Prelude.{◌≡◌, is_some};
 ghost use Rattle.stages.specs.Network.{NetworkLaw};
 ghost use Rattle.kinds.specs.Base.{base_kinds};
 
-use keeping::kind::Keeping;
+use keeping::kind;
 use keeping::largest::Largest;
 use keeping::rectifier::Rectifier;
 use keeping::repeat::Repeat;
@@ -20,10 +20,13 @@ use stages::pair::Pair;
 pub type Multiplying = Pair<Rows<Full>, Rows<Taps>>;
 
 // Kinds 3 to 5, which keep the format.
-pub type FormatKeeping = Pair<Keeping<Largest>, Pair<Keeping<Rectifier>, Keeping<Repeat>>>;
+pub type Keeping = Pair<
+    kind::Keeping<Largest>,
+    Pair<kind::Keeping<Rectifier>, kind::Keeping<Repeat>>,
+>;
 
 // All five.
-pub type Base = Pair<Multiplying, FormatKeeping>;
+pub type Base = Pair<Multiplying, Keeping>;
 
 pub const BASE: Base = Pair {
     first: Pair {
@@ -31,10 +34,10 @@ pub const BASE: Base = Pair {
         second: Rows(Taps),
     },
     second: Pair {
-        first: Keeping(Largest),
+        first: kind::Keeping(Largest),
         second: Pair {
-            first: Keeping(Rectifier),
-            second: Keeping(Repeat),
+            first: kind::Keeping(Rectifier),
+            second: kind::Keeping(Repeat),
         },
     },
 };

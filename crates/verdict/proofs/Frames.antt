@@ -12,6 +12,13 @@ use Rattle.verdict.specs.Certificate.{record_in, records_from}
 use Rattle.verdict.specs.Running.{Frame, frame, ran, codes_by, frame_past, frame_from}
 use Rattle.verdict.proofs.Passed.{past-ok}
 
+-- a stage that passes, and codes that run
+pub frame-past : (m : Kinds) (a k : ℕ) (st en : Stand) (cs ds : List ℤ) (o : Option Split) → wires_past m a k st o ≡ Ok en
+    → codes_by m a (record_in o) st.shape cs ≡ Ok ds → frame_past m a k (frame st cs) o ≡ Ok (frame en ds)
+frame-past m a k st en cs ds o w r =
+    ap (λ t. and_then t (λ e. and_then (ran (codes_by m a (record_in o) st.shape cs)) (λ zs. Ok (frame e zs)))) w
+    ∙ ap (λ t. and_then (ran t) (λ zs. Ok (frame en zs))) r
+
 -- a stage's wires and what follows, where it passes
 shape-past : (m : Kinds) (a k : ℕ) (st en : Stand) (o : Option Split) → wires_past m a k st o ≡ Ok en
     → (kind_in m (record_in o)).after (setting (record_in o) a st.shape) ≡ en.shape

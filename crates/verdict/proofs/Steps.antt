@@ -1,6 +1,5 @@
 -- One turn of a search or a loop, for the definitions that they work out.
-use Rattle.std.proofs.Common.{◌≡◌, ℕ, zero, suc, ◌+◌, ◌-◌, ◌<◌, ◌≤◌, List, None, Result, ap, sym, ◌∙◌, subst, ⊎_elim, arith}
-use Rattle.std.proofs.lemmas.Bool.{cases_eq}
+use Rattle.std.proofs.Common.{◌≡◌, ℕ, zero, suc, ◌+◌, ◌-◌, ◌<◌, List, Result, ap, sym, ◌∙◌, arith}
 use Rattle.stages.specs.Kind.{Kinds}
 use Rattle.fixed.specs.Steps.{and_then}
 use Rattle.stages.specs.Network.{Stand}
@@ -8,12 +7,10 @@ use Rattle.settings.specs.declared.refusal.Refusal.{Refusal}
 use Rattle.verdict.specs.Running.{Frame, frame_past, frame_from}
 use Rattle.verdict.specs.Stages.{from_stage, rest_of, stage_in, stage_at, wires_past, wires_from}
 
--- past a stage that is not there, there is none
-pub none-past : (xs : List ℕ) (i k : ℕ) → i ≤ k → from_stage xs i ≡ None → from_stage xs k ≡ None
-none-past xs i zero h e = let same : i ≡ 0 = omega arith in subst (λ j. from_stage xs j ≡ None) same e
-none-past xs i (suc k) h e = ⊎_elim
-    (λ (same : i ≡ suc k). subst (λ j. from_stage xs j ≡ None) same e)
-    (λ (more : i ≡ suc k → ⊥). ap (λ o. rest_of (stage_in o)) (none-past xs i k (omega arith) e)) (cases_eq i (suc k))
+-- a stage by the one before it
+pub stage-more : (xs : List ℕ) (k : ℕ) → 0 < k → from_stage xs k ≡ rest_of (stage_in (from_stage xs (k - 1)))
+stage-more xs zero h = absurd (omega arith)
+stage-more xs (suc k) h = let e : k ≡ suc k - 1 = omega arith in ap (λ j. rest_of (stage_in (from_stage xs j))) e
 
 -- one stage more of those that are left, by what it answers
 pub wires-step : (m : Kinds) (a : ℕ) (xs : List ℕ) (k n : ℕ) (st : Stand) (r : Result Stand Refusal) → k < n → r ≡ wires_past m a (k + 1) st (stage_at xs k)

@@ -13,15 +13,16 @@ fn split_stage(bytes: &[u8]) -> Option<Record<'_>>
     split_record(bytes).filter(|split| split.front.len() >= 2)
 }
 
-// The bytes from the start of a stage on.
+// The bytes from the start of a stage on. No loop: by the rules, the search calls itself for the stage before.
 pub fn from_stage(records: &[u8], k: u8) -> Option<&[u8]>
     ensures { option_map (λ x. x.now) result ≡ from_stage records.now k }
 {
-    let mut left = records;
-    for passed in 0..k {
-        left = split_stage(left)?.rest;
+    if k == 0 {
+        return Some(records);
     }
-    Some(left)
+    let before = from_stage(records, k - 1)?;
+    let split = split_stage(before)?;
+    Some(split.rest)
 }
 
 // The record of a stage.
