@@ -1,7 +1,7 @@
 #!/usr/bin/env python3
-"""Lists places in crates/*/src, tests apart, where an older form of Rattle may stand: python3 tools/places.py [FOLDER]
+"""Lists places in crates/*/src, tests apart, where a plainer form may do: python3 tools/places.py [FOLDER]
 
-Each is a place to look at; docs/DESIGN-PASS.md says what became of those that were found.
+Each is a place to look at; docs/DESIGN-PASS.md says what became of those that were found, by the same numbers.
 """
 import collections
 import pathlib
