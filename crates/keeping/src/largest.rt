@@ -25,7 +25,7 @@ impl Operation for Largest {
     const NUMBER: u8 = 3;
 
     fn within(&self, size: u8, _inputs: u8) -> bool {
-        2 <= size && size <= 64
+        matches!(size, 2..=64)
     }
 
     fn outputs<T: Signal>(&self, size: u8, from: &[T]) -> Outputs<T> {

@@ -25,7 +25,7 @@ impl Operation for Repeat {
     const NUMBER: u8 = 5;
 
     fn within(&self, size: u8, inputs: u8) -> bool {
-        2 <= size && size <= 8 && u16::from(inputs) * u16::from(size) <= 64
+        matches!(size, 2..=8) && u16::from(inputs) * u16::from(size) <= 64
     }
 
     fn outputs<T: Signal>(&self, size: u8, from: &[T]) -> Outputs<T> {
