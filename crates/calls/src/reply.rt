@@ -3,7 +3,7 @@ use crate::certificate_row::CertificateRow;
 use crate::status::{Report, Status};
 use settings::refusal::Refusal;
 
-// The answer of the call, and the buffer as it was left where one was lent.
+// The answer of the call, and the buffer as it was left where one was lent: a count beside it, since places behind the answer stay.
 #[derive(Drop)]
 pub enum Reply {
     Load(Result<u32, Refusal>),

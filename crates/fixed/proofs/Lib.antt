@@ -2,5 +2,4 @@ pub mod Floors
 pub mod Words
 pub mod Scales
 pub mod Wires
-pub mod Tables
 pub mod Chains

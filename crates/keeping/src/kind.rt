@@ -8,7 +8,7 @@ ghost use Rattle.keeping.specs.Keeping.{keeping};
 ghost use Rattle.keeping.specs.Kept.{lawful-keeping};
 
 use crate::operation::Operation;
-use crate::record::{check_record, size_of};
+use crate::record::size_of;
 use fixed::row::WireRow;
 use stages::kind_set::KindSet;
 use stages::shape::{KindRefusal, RunRefusal, Shape};
@@ -18,6 +18,7 @@ use stages::wires::{Codes, Wires};
 #[derive(Clone, Copy)]
 pub struct Keeping<O>(pub O);
 
+// `Rows` of the kinds that multiply is such a set too: a trait between the two would repeat the contracts of `judge` and `run`.
 impl<O: Operation> KindSet for Keeping<O> {
     ghost meaning = { λ _. only O.NUMBER (keeping O.within O.count (O.outputs larger_row rectified_row) (O.outputs int_max rectified)) };
 
@@ -32,7 +33,12 @@ impl<O: Operation> KindSet for Keeping<O> {
             return Err(KindRefusal::Unknown);
         }
         let size = size_of(stage.bytes);
-        check_record(self.0.within(size, stage.before.count), stage.bytes)?;
+        if !self.0.within(size, stage.before.count) {
+            return Err(KindRefusal::Size);
+        }
+        if stage.bytes.len() != 2 {
+            return Err(KindRefusal::Length);
+        }
         let rows = self.0.outputs(size, wires);
         let shape = Shape {
             count: rows.len() as u8,

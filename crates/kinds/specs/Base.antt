@@ -1,7 +1,7 @@
 -- The kinds of this relay, by their numbers. Assumes nothing.
 use Rattle.stages.specs.Kind.{Kinds, only, or_else}
 use Rattle.rows.specs.Plan.{rows_kind, full_plan, taps_plan}
-use Rattle.keeping.specs.Keeping.{largest, rectifier, repeat}
+use Rattle.keeping.specs.Keeping.{largest_set, rectifier_set, repeat_set}
 
 -- 1 full and 2 taps
 abbrev pub multiplying_set : Kinds
@@ -9,7 +9,7 @@ multiplying_set n = or_else (only 1 (rows_kind full_plan) n) (only 2 (rows_kind 
 
 -- 3 largest, 4 rectifier and 5 repeat
 abbrev pub keeping_set : Kinds
-keeping_set n = or_else (only 3 largest n) (or_else (only 4 rectifier n) (only 5 repeat n))
+keeping_set n = or_else (largest_set n) (or_else (rectifier_set n) (repeat_set n))
 
 abbrev pub base_kinds : Kinds
 base_kinds n = or_else (multiplying_set n) (keeping_set n)

@@ -1,5 +1,5 @@
 // The wires after a stage of an accepted file, with the bits that they need.
-ghost use Rattle.std.specs.Prelude.{◌≡◌, ◌≤◌, map, length};
+ghost use Rattle.std.specs.Prelude.{◌≡◌, map, length};
 ghost use Rattle.stages.specs.Kind.{map_ok, over};
 ghost use Rattle.verdict.specs.Loaded.{loaded_in};
 ghost use Rattle.calls.specs.Certified.{certified_row};
@@ -7,17 +7,17 @@ ghost use Rattle.relay.specs.Certificate.{certificate_in};
 
 use arrayvec::ArrayVec;
 use calls::certificate_row::CertificateRow;
-use fixed::row::WireRow;
 use settings::refusal::Refusal;
 use stages::kind_set::KindSet;
+use stages::wires::Wires;
 use verdict::front::write_front;
 use verdict::loaded::fields_of;
 use verdict::wires::wires_after;
 
-fn certified_rows(wires: &[WireRow]) -> ArrayVec<CertificateRow, 64>
-    requires { length wires.now ≤ 64 }
-    ensures { result.items ≡ map certified_row wires.now }
+fn certified_rows(wires: &Wires) -> ArrayVec<CertificateRow, 64>
+    ensures { result.items ≡ map certified_row wires.now.rows.items }
 {
+    let wires = wires.rows.as_slice();
     let mut rows = ArrayVec::new();
     for wire in wires {
         rows.push(CertificateRow::from(*wire));
@@ -39,8 +39,9 @@ pub(crate) fn certificate_of<K: KindSet>(
     if stage > u32::from(fields.stages) {
         return Err(Refusal::NoStage);
     }
+    // Why there are none does not matter: `let .. else` drops the refusal, where `map_err` would take a closure to do it.
     let Ok(wires) = wires_after(kinds, file, stage as u8) else {
         return Err(Refusal::NoFile);
     };
-    write_front(certified_rows(wires.rows.as_slice()).as_slice(), out)
+    write_front(certified_rows(&wires).as_slice(), out)
 }

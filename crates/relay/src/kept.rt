@@ -28,6 +28,7 @@ impl Kept {
         self.bytes.try_extend_from_slice(file).unwrap();
     }
 
+    // An Option: the calls say themselves that there is no file, as they say their other refusals.
     pub(crate) fn file(&self) -> Option<&[u8]>
         ensures { option_map (λ x. x.now) result ≡ file_in self.now.bytes.items }
     {

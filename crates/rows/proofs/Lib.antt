@@ -1,4 +1,3 @@
 pub mod Walks
 pub mod Codes
-pub mod Units
 pub mod Fields

@@ -26,7 +26,7 @@ impl<P: Plan> KindSet for Rows<P> {
     }
 
     fn judge(&self, number: u8, stage: Stage<'_>, wires: &[WireRow]) -> Result<Wires, KindRefusal> {
-        if number != P::NUMBER {
+        if !self.knows(number) {
             return Err(KindRefusal::Unknown);
         }
         judge_plan::<P>(stage, wires)

@@ -69,7 +69,7 @@ pub(crate) fn judge_plan<'a, P: Plan>(
     })
 }
 
-// The codes after a stage that some wires pass.
+// The codes after a stage that some wires pass. `Outputs` are made as above: a function for it would have more premises than lines.
 pub(crate) fn run_plan<'a, P: Plan>(stage: Stage<'a>, codes: &'a [i32]) -> Result<Codes, RunRefusal>
     requires passes { Passes (rows_kind P.plan) (setting_in stage) }
     requires many { length codes.now ≡ stage.before.count }

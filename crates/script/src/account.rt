@@ -8,7 +8,8 @@ use calls::reply::Reply;
 use calls::request::Request;
 use std::alloc::{AllocError, Global};
 
-// A block for each line: well-formed lines take the calls and their replies in order.
+// A block for each line: well-formed lines take the calls and their replies in order. Flags and requests come apart, and not as a
+// `Script`: replies are of requests alone.
 pub fn account(
     heap: Global,
     well_formed: &[bool],

@@ -14,7 +14,8 @@ fn hex_byte(high: u8, low: u8) -> Option<u8>
     Some((16 * high + low) as u8)
 }
 
-// The bytes of a file, if the digits come in pairs.
+// The bytes of a file, if the digits come in pairs. A slice pattern takes two and says what is left; chunks would hand an odd digit
+// back apart.
 pub(crate) fn bytes_in(heap: Global, digits: &[u8]) -> Result<Option<Vec<u8>>, AllocError>
     ensures { IfOk result (λ o. option_map vec_items o ≡ bytes_in digits.now) }
 {

@@ -1,4 +1,3 @@
-pub mod Splits
 pub mod Improper
 pub mod Steps
 pub mod Heads

@@ -1,12 +1,7 @@
 -- One turn of a loop, for the definitions that loops work out.
-use Rattle.std.proofs.Common.{◌≡◌, ℕ, zero, suc, ◌+◌, ◌-◌, ◌<◌, ◌≤◌, Bool, true, false, cond, Some, None, refl, ap, ◌∙◌, subst, ⊎_elim, arith}
+use Rattle.std.proofs.Common.{◌≡◌, ℕ, zero, suc, ◌+◌, ◌<◌, ◌≤◌, Bool, true, false, cond, Some, None, refl, ap, ◌∙◌, subst, ⊎_elim, arith}
 use Rattle.std.proofs.lemmas.Bool.{cases_eq}
 use Rattle.settings.specs.Firsts.{first_failing}
-
-pub first_more : (test : ℕ → Bool) (i n : ℕ) → 0 < n → first_failing test i n ≡ cond (test i) (first_failing test (i + 1) (n - 1)) (Some i)
-first_more test i zero h = absurd (omega arith)
-first_more test i (suc n) h =
-    let e : n ≡ suc n - 1 = omega arith in ap (λ k. cond (test i) (first_failing test (i + 1) k) (Some i)) e
 
 -- no failure: the test passes everywhere
 pub first-none : (test : ℕ → Bool) (i n : ℕ) → first_failing test i n ≡ None → (j : ℕ) → i ≤ j → j < i + n → test j ≡ true

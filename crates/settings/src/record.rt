@@ -2,6 +2,7 @@
 ghost use Rattle.std.specs.Prelude.{◌≡◌};
 ghost use Rattle.std.specs.Option.{option_map};
 ghost use Rattle.settings.specs.Records.{split_record};
+ghost use Rattle.settings.specs.Answer.{split_in};
 
 // A record, and the bytes after it.
 #[derive(Clone, Copy)]
@@ -12,17 +13,12 @@ pub struct Record<'a> {
 
 // The record in front, or none where it runs past the end.
 pub fn split_record(bytes: &[u8]) -> Option<Record<'_>>
-    ensures { option_map (λ s. record { front = s.front.now; rest = s.rest.now }) result ≡ split_record bytes.now }
+    ensures { option_map split_in result ≡ split_record bytes.now }
 {
     let [high, low, rest @ ..] = bytes else {
         return None;
     };
     let size = usize::from(u16::from_be_bytes([*high, *low]));
-    if size > rest.len() {
-        return None;
-    }
-    Some(Record {
-        front: &rest[0..size],
-        rest: &rest[size..],
-    })
+    let (front, rest) = rest.split_at_checked(size)?;
+    Some(Record { front, rest })
 }

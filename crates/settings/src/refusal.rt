@@ -105,7 +105,7 @@ impl fmt::Display for Further {
 
     fn fmt<W: fmt::Write>(&self, f: &mut fmt::Formatter<W>) -> fmt::Result {
         match *self {
-            Further::Nothing => write!(f, ""),
+            Further::Nothing => Ok(()),
             Further::One(a) => write!(f, " {a}"),
             Further::Two(a, b) => write!(f, " {a} {b}"),
         }

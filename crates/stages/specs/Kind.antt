@@ -65,7 +65,7 @@ abbrev pub map_ok : {A B E : Type 0} → (A → B) → Result A E → Result B E
 map_ok f (Ok x) = Ok (f x)
 map_ok f (Err e) = Err e
 
--- an answer in front of a lent table, the rest of it as it was; all of it as it was on a refusal
+-- an answer in front of a caller's buffer, the rest of it as it was; all of it as it was on a refusal
 abbrev pub over : {X E : Type 0} → Result (List X) E → List X → List X
 over (Ok ys) table = ys ++ drop (length ys) table
 over (Err e) table = table

@@ -22,7 +22,7 @@ pub trait KindSet {
         requires { Given (setting_in stage) wires.now }
         ensures { map_ok wires_in result ≡ wires_by (kind_of (meaning self.now number)) (setting_in stage.entry) wires.now };
 
-    // The codes after a stage that some wires pass.
+    // The codes after a stage that some wires pass. That there is a code for each of them is a premise: a run is not given the wires.
     fn run(&self, number: u8, stage: Stage<'_>, codes: &[i32]) -> Result<Codes, RunRefusal>
         requires passes { Passes (kind_of (meaning self.now number)) (setting_in stage) }
         requires many { length codes.now ≡ stage.before.count }

@@ -54,6 +54,7 @@ pub fn bench_of<K: KindSet>(
     ensures answer { result ≡ map_ok length (bench_in (K.meaning kinds.now) (loaded_in (K.meaning kinds.now) file.now) stage codes.now (length out.old)) }
     ensures buffer { out.new ≡ over (bench_in (K.meaning kinds.now) (loaded_in (K.meaning kinds.now) file.now) stage codes.now (length out.old)) out.old }
 {
+    // Why it is no file does not matter: `let .. else` drops the refusal, where `map_err` would take a closure to do it.
     let Ok((network, inputs)) = open(kinds, file) else {
         return Err(Refusal::NoFile);
     };

@@ -5,7 +5,7 @@ ghost use Rattle.fixed.specs.Format.{is_format, grains_of};
 use super::Format;
 
 impl Format {
-    // Answers exactly where the two numbers are a format.
+    // Answers exactly where the two numbers are a format. An Option and no `TryFrom` of a pair: an error would say no more than `None`.
     pub fn new(word: u8, fraction: u8) -> Option<Format>
         ensures test { is_some result ≡ is_format word fraction }
         ensures parts { IfSome result (λ f. (f.word ≡ word) × (f.fraction ≡ fraction)) }

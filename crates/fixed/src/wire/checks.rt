@@ -11,7 +11,7 @@ use crate::word::fits_word;
 pub const MOST_ERROR: u32 = 16_777_216;
 
 impl Wire {
-    // Answers exactly where the row is proper in the format.
+    // Answers exactly where the row is proper in the format. An Option and no `TryFrom` of a pair: an error would say no more than `None`.
     pub fn new(format: Format, row: WireRow) -> Option<Wire>
         ensures test { is_some result ≡ is_proper format.word row }
         ensures parts { IfSome result (λ w. (w.format ≡ format) × (w.row ≡ row)) }

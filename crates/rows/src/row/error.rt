@@ -7,7 +7,7 @@ use crate::row_format::RowFormat;
 use fixed::row::WireRow;
 
 // 2^places. Here places are at most 24, as formats that go together have it; a type for them would be made at each call.
-#[tactic(auto, using(crate::proofs::Units::unit_most))]
+#[tactic(auto, using(std::proofs::Common::pow_mono))]
 fn unit(places: u8) -> u32
     requires { places ≤ 24 }
     ensures value { result ≡ 2 ^ places }

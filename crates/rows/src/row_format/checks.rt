@@ -9,7 +9,7 @@ use fixed::floor::floor_shift;
 use fixed::format::Format;
 
 impl RowFormat {
-    // Answers exactly where the formats go together.
+    // Answers exactly where the formats go together. It has a premise, which a `TryFrom` may not have.
     pub(crate) fn new(scales: Scales) -> Option<RowFormat>
         requires { (16 ≤ scales.bits) × ((scales.bits ≤ 56) × (scales.fx ≤ 20)) }
         ensures test { is_some result ≡ scales_fit scales }

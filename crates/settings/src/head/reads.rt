@@ -4,7 +4,7 @@ ghost use Rattle.std.specs.Result.{result_map_both};
 ghost use Rattle.settings.specs.Records.{split_record};
 ghost use Rattle.settings.specs.Head.{records_of, header_record, limited_fields, checked_inputs, head_of};
 ghost use Rattle.settings.specs.HeadLaw.{HeadLaw};
-ghost use Rattle.settings.specs.Answer.{head_in};
+ghost use Rattle.settings.specs.Answer.{split_in, head_in};
 
 use super::Head;
 use crate::fields::Fields;
@@ -35,7 +35,7 @@ fn records(file: &[u8]) -> Result<&[u8], Refusal>
 }
 
 fn header_record(records: &[u8]) -> Result<Record<'_>, Refusal>
-    ensures { result_map_both (λ s. record { front = s.front.now; rest = s.rest.now }) (λ e. e) result ≡ header_record (split_record records.now) }
+    ensures { result_map_both split_in (λ e. e) result ≡ header_record (split_record records.now) }
 {
     let split = split_record(records).ok_or(Refusal::HeaderLength)?;
     let inputs = split.front.first().ok_or(Refusal::HeaderLength)?;

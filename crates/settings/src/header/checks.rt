@@ -7,7 +7,7 @@ use crate::fields::Fields;
 use fixed::format::Format;
 
 impl Header {
-    // Answers exactly where every field is inside its limits. An Option and no `TryFrom`: the reader of a file says what refusal it is.
+    // Answers exactly where every field is inside its limits. An Option and no `TryFrom`: an error would say no more than `None`.
     pub fn new(fields: Fields) -> Option<Header>
         ensures test { is_some result ≡ in_limits fields }
         ensures parts { IfSome result (λ h. h.fields ≡ fields) }

@@ -24,7 +24,7 @@ use stages::wires::{Codes, Wires};
 fn in_row(row: WireRow, code: i32) -> bool
     ensures { result ≡ in_row row code }
 {
-    row.low <= code && code <= row.high
+    (row.low..=row.high).contains(&code)
 }
 
 // The place of the first code outside its input's range.
@@ -38,10 +38,10 @@ fn first_outside(inputs: &[WireRow], codes: &[i32]) -> Option<usize>
 }
 
 // Whether a frame's codes are taken at these inputs.
-fn check_frame(inputs: &[WireRow], codes: &[i32]) -> Result<(), Refusal>
-    requires { length inputs.now ≤ 64 }
-    ensures { result ≡ unless_fault (frame_fault inputs.now codes.now) (ok tt) }
+fn check_frame(inputs: &Wires, codes: &[i32]) -> Result<(), Refusal>
+    ensures { result ≡ unless_fault (frame_fault inputs.now.rows.items codes.now) (ok tt) }
 {
+    let inputs = inputs.rows.as_slice();
     if codes.len() != inputs.len() {
         return Err(Refusal::CodeCount);
     }
@@ -51,15 +51,13 @@ fn check_frame(inputs: &[WireRow], codes: &[i32]) -> Result<(), Refusal>
     }
 }
 
-// A frame's codes in fixed memory.
+// A frame's codes in fixed memory. That they are few is a premise: the caller's slice has no length in its type.
 fn taken(codes: &[i32]) -> Codes
     requires { length codes.now ≤ 64 }
     ensures { result.items ≡ codes.now }
 {
     let mut taken = Codes::new();
-    for code in codes {
-        taken.push(*code);
-    }
+    taken.try_extend_from_slice(codes).unwrap();
     taken
 }
 
@@ -85,21 +83,12 @@ fn output_with(fields: Fields, last: &Frame) -> Output
     }
 }
 
-// One pass over the stages with a frame of as many codes as inputs.
-fn run_frame<K: KindSet>(
-    network: &Network<'_, K>,
-    inputs: Wires,
-    codes: Codes,
-) -> Result<Output, Refusal>
-    requires { length codes.items ≡ inputs.shape.count }
-    ensures { result ≡ frame_pass (K.meaning network.now.kinds.now) network.now.header.fields network.now.records.now (frame (wires_in inputs) codes.items) }
+// One pass over the stages with a frame.
+fn run_frame<K: KindSet>(network: &Network<'_, K>, frame: Frame) -> Result<Output, Refusal>
+    ensures { result ≡ frame_pass (K.meaning network.now.kinds.now) network.now.header.fields network.now.records.now (frame_in frame) }
 {
     let fields = network.fields();
-    let inputs = Frame {
-        wires: inputs,
-        codes,
-    };
-    let last = network.run_stages(fields.stages, inputs)?;
+    let last = network.run_stages(fields.stages, frame)?;
     network.close(&last.wires)?;
     Ok(output_with(fields, &last))
 }
@@ -112,8 +101,13 @@ fn pass<K: KindSet>(
 ) -> Result<Output, Refusal>
     ensures { result ≡ unless_fault (frame_fault inputs.rows.items codes.now) (frame_pass (K.meaning network.now.kinds.now) network.now.header.fields network.now.records.now (frame (wires_in inputs) codes.now)) }
 {
-    check_frame(inputs.rows.as_slice(), codes)?;
-    run_frame(network, inputs, taken(codes))
+    check_frame(&inputs, codes)?;
+    let codes = taken(codes);
+    let frame = Frame {
+        wires: inputs,
+        codes,
+    };
+    run_frame(network, frame)
 }
 
 // The output of a frame, or the first refusal; with a file that is not accepted, that there is no file.

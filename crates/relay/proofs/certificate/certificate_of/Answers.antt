@@ -1,11 +1,10 @@
-use Rattle.std.proofs.Common.{rules, ◌≡◌, ℕ, map, length, Some, Ok, Err, Result, sym, ap, ◌∙◌, arith}
+use Rattle.std.proofs.Common.{rules, ◌≡◌, ℕ, length, Some, Ok, Err, Result, sym, ap, ◌∙◌, arith}
 use Rattle.stages.specs.Kind.{map_ok, over}
 use Rattle.stages.specs.Network.{Stand}
 use Rattle.stages.specs.Wires.{wires_in}
 use Rattle.settings.specs.declared.refusal.Refusal.{Refusal}
 use Rattle.verdict.specs.Front.{fitting}
 use Rattle.verdict.specs.Loaded.{fields_in, loaded_in}
-use Rattle.calls.specs.Certified.{certified_row}
 use Rattle.relay.specs.Certificate.{rows_for}
 use Rattle.relay.proofs.Accepted.{certifies, same-wires}
 use Rattle.relay.proofs.certificate.certificate_of.Goals as goal
@@ -26,6 +25,6 @@ returns g c =
     let told : Some c.in_ok-fields.fields ≡ fields_in (loaded_in m c.args.file.now) = search rules in
     let t = certifies m c.args.file.now c.in_ok-fields.fields c.args.stage (length out) told (omega arith) in
     let same = same-wires (wires_in c.in-Ok.wires) t.wires (c.in-Ok.ensures ∙ t.found) in
-    let made = c.as_slice-2.ensures.value ∙ c.certified_rows.ensures ∙ ap (map certified_row) c.as_slice.ensures.value in
+    let made = c.as_slice.ensures.value ∙ c.certified_rows.ensures in
     let e = ap (fitting (length out)) made ∙ ap (rows_for (length out)) same ∙ sym t.rows in
     record { answer = c.write_front.ensures.answer ∙ ap (map_ok length) e; buffer = c.write_front.ensures.buffer ∙ ap (λ r. over r out) e }
