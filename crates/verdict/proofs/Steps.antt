@@ -1,16 +1,11 @@
--- One turn of a search or a loop, for the definitions that they work out.
-use Rattle.std.proofs.Common.{◌≡◌, ℕ, zero, suc, ◌+◌, ◌-◌, ◌<◌, List, Result, ap, sym, ◌∙◌, arith}
+-- One turn of a loop over stages, for the definitions that it works out.
+use Rattle.std.proofs.Common.{◌≡◌, ℕ, suc, ◌+◌, ◌-◌, ◌<◌, List, Result, ap, sym, ◌∙◌, arith}
 use Rattle.stages.specs.Kind.{Kinds}
 use Rattle.fixed.specs.Steps.{and_then}
 use Rattle.stages.specs.Network.{Stand}
 use Rattle.settings.specs.declared.refusal.Refusal.{Refusal}
 use Rattle.verdict.specs.Running.{Frame, frame_past, frame_from}
-use Rattle.verdict.specs.Stages.{from_stage, rest_of, stage_in, stage_at, wires_past, wires_from}
-
--- a stage by the one before it
-pub stage-more : (xs : List ℕ) (k : ℕ) → 0 < k → from_stage xs k ≡ rest_of (stage_in (from_stage xs (k - 1)))
-stage-more xs zero h = absurd (omega arith)
-stage-more xs (suc k) h = let e : k ≡ suc k - 1 = omega arith in ap (λ j. rest_of (stage_in (from_stage xs j))) e
+use Rattle.verdict.specs.Stages.{stage_at, wires_past, wires_from}
 
 -- one stage more of those that are left, by what it answers
 pub wires-step : (m : Kinds) (a : ℕ) (xs : List ℕ) (k n : ℕ) (st : Stand) (r : Result Stand Refusal) → k < n → r ≡ wires_past m a (k + 1) st (stage_at xs k)
