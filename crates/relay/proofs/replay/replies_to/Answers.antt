@@ -1,5 +1,4 @@
 use Rattle.std.proofs.Common.{◌≡◌, [], ◌∷◌, ◌++◌, map, reverse, take, vec_items, sym, ap, ◌∙◌, ap₂, arith, rules}
-use Rattle.std.proofs.lemmas.List.{take_all}
 use Rattle.calls.specs.Call.{told_by}
 use Rattle.calls.specs.Written.{call_in}
 use Rattle.relay.specs.Rules.{State, called}
@@ -26,11 +25,3 @@ loop-request-preserved g c =
       told_more (vec_items c.loop-request.replies) (vec_items c.push.new.self) c.in_ok-reply.reply run.events (event (call_in x) (called m run.state (call_in x)))
           c.loop-request.invariant.2 said pushed ∙ sym (ap (λ (r : Run). map told_by (reverse r.events)) more),
     )
-
-pub returns : goal.returns
-returns g c =
-    let xs = c.args.requests.now in
-    let m = g.K.KindSet.meaning c.new-relay.result.kinds in
-    c.loop-request.invariant.2
-    ∙ ap (λ ys. map told_by (reverse (run_on m begun (map call_in ys)).events)) (take_all c.loop-request.request-index xs (omega arith))
-    ∙ ap (λ k. map told_by (reverse (run_on (g.K.KindSet.meaning k) begun (map call_in xs)).events)) c.new-relay.ensures.set
