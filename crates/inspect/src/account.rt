@@ -15,9 +15,10 @@ pub fn account(heap: Global, file: &[u8]) -> Result<String, AllocError>
     match read_head(file) {
         Ok(head) => {
             let fields = FieldLines(head.header.fields());
+            let rows = head.inputs();
             let inputs = InputLines {
                 format: head.header.format(),
-                rows: head.inputs.as_slice(),
+                rows: rows.as_slice(),
             };
             format!(in heap; "{fields}{inputs}")
         }

@@ -13,7 +13,7 @@ use fixed::row::WireRow;
 use stages::kind_set::KindSet;
 use stages::shape::{KindRefusal, RunRefusal, Shape};
 use stages::stage::Stage;
-use stages::wires::{Codes, Wires};
+use stages::wires::{Codes, WireRows};
 
 #[derive(Clone, Copy)]
 pub struct Keeping<O>(pub O);
@@ -28,7 +28,13 @@ impl<O: Operation> KindSet for Keeping<O> {
         number == O::NUMBER
     }
 
-    fn judge(&self, number: u8, stage: Stage<'_>, wires: &[WireRow]) -> Result<Wires, KindRefusal> {
+    fn judge(
+        &self,
+        number: u8,
+        stage: Stage<'_>,
+        wires: &[WireRow],
+        after: &mut WireRows,
+    ) -> Result<Shape, KindRefusal> {
         if !self.knows(number) {
             return Err(KindRefusal::Unknown);
         }
@@ -39,15 +45,21 @@ impl<O: Operation> KindSet for Keeping<O> {
         if stage.bytes.len() != 2 {
             return Err(KindRefusal::Length);
         }
-        let rows = self.0.outputs(size, wires);
-        let shape = Shape {
-            count: rows.len() as u8,
+        self.0.outputs(size, wires, after);
+        Ok(Shape {
+            count: after.len() as u8,
             ..stage.before
-        };
-        Ok(Wires { shape, rows })
+        })
     }
 
-    fn run(&self, number: u8, stage: Stage<'_>, codes: &[i32]) -> Result<Codes, RunRefusal> {
-        Ok(self.0.outputs(size_of(stage.bytes), codes))
+    fn run(
+        &self,
+        number: u8,
+        stage: Stage<'_>,
+        codes: &[i32],
+        after: &mut Codes,
+    ) -> Result<(), RunRefusal> {
+        self.0.outputs(size_of(stage.bytes), codes, after);
+        Ok(())
     }
 }

@@ -28,7 +28,7 @@ impl Operation for Largest {
         matches!(size, 2..=64)
     }
 
-    fn outputs<T: Signal>(&self, size: u8, from: &[T]) -> Outputs<T> {
-        pool(size, from)
+    fn outputs<T: Signal>(&self, size: u8, from: &[T], out: &mut Outputs<T>) {
+        pool(size, from, out);
     }
 }

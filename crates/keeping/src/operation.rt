@@ -26,11 +26,12 @@ pub trait Operation {
     fn within(&self, size: u8, inputs: u8) -> bool
         ensures { result ≡ within size inputs };
 
-    fn outputs<T: Signal>(&self, size: u8, from: &[T]) -> Outputs<T>
+    // The outputs, in place of what stood in the list.
+    fn outputs<T: Signal>(&self, size: u8, from: &[T], out: &mut Outputs<T>)
         requires limits { IsTrue (within size (length from.now)) }
         requires some { 1 ≤ length from.now }
         requires few { length from.now ≤ 64 }
-        ensures { result.items ≡ outputs T.larger T.rectified size from.now };
+        ensures { out.new.items ≡ outputs T.larger T.rectified size from.now };
 
     ghost keeps: { Keeps within count (outputs larger_row rectified_row) (outputs int_max rectified) };
 }

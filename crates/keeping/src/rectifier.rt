@@ -26,7 +26,7 @@ impl Operation for Rectifier {
         size == 0
     }
 
-    fn outputs<T: Signal>(&self, _size: u8, from: &[T]) -> Outputs<T> {
-        rectify(from)
+    fn outputs<T: Signal>(&self, _size: u8, from: &[T], out: &mut Outputs<T>) {
+        rectify(from, out);
     }
 }

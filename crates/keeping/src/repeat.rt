@@ -28,7 +28,7 @@ impl Operation for Repeat {
         matches!(size, 2..=8) && u16::from(inputs) * u16::from(size) <= 64
     }
 
-    fn outputs<T: Signal>(&self, size: u8, from: &[T]) -> Outputs<T> {
-        repeat(size, from)
+    fn outputs<T: Signal>(&self, size: u8, from: &[T], out: &mut Outputs<T>) {
+        repeat(size, from, out);
     }
 }

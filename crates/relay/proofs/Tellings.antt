@@ -10,10 +10,10 @@ use Rattle.calls.specs.Call.{Call, Answer, written, Left, Event, Told, told_by}
 use Rattle.calls.specs.Written.{answered, call_in, told_in}
 use Rattle.relay.specs.Ways.{Run, begun, run_more, run_on}
 
-abbrev telling : Answer → Left → Told
+abbrev pub telling : Answer → Left → Told
 telling a l = record { answer = a; left = l }
 
-answered-map : {A B : Type 0} (f : B → Answer) (g : A → B) (r : Result A Refusal) → answered f (map_ok g r) ≡ answered (λ x. f (g x)) r
+pub answered-map : {A B : Type 0} (f : B → Answer) (g : A → B) (r : Result A Refusal) → answered f (map_ok g r) ≡ answered (λ x. f (g x)) r
 answered-map f g (Ok x) = refl
 answered-map f g (Err e) = refl
 
@@ -35,7 +35,7 @@ buffered-told v by left a out before made long same e l =
     ap (λ xs. telling (answered written a) (left xs)) (with_items_is v out long) ∙ written-told by left a out before made same e l
 
 -- one call more
-run-push : (m : Kinds) (r : Run) (cs : List Call) (c : Call) → run_on m r (cs ++ c ∷ []) ≡ run_more m (run_on m r cs) c
+pub run-push : (m : Kinds) (r : Run) (cs : List Call) (c : Call) → run_on m r (cs ++ c ∷ []) ≡ run_more m (run_on m r cs) c
 run-push m r [] c = refl
 run-push m r (d ∷ cs) c = run-push m (run_more m r d) cs c
 

@@ -2,6 +2,7 @@
 ghost use Rattle.std.specs.Prelude.{◌≡◌, map, length};
 ghost use Rattle.stages.specs.Kind.{map_ok, over};
 ghost use Rattle.verdict.specs.Loaded.{loaded_in};
+ghost use Rattle.verdict.specs.Table.{wires_in};
 ghost use Rattle.calls.specs.Certified.{certified_row};
 ghost use Rattle.relay.specs.Certificate.{certificate_in};
 
@@ -9,15 +10,14 @@ use arrayvec::ArrayVec;
 use calls::certificate_row::CertificateRow;
 use settings::refusal::Refusal;
 use stages::kind_set::KindSet;
-use stages::wires::Wires;
 use verdict::front::write_front;
 use verdict::loaded::fields_of;
-use verdict::wires::wires_after;
+use verdict::wires::{Wires, wires_after};
 
 fn certified_rows(wires: &Wires) -> ArrayVec<CertificateRow, 64>
-    ensures { result.items ≡ map certified_row wires.now.rows.items }
+    ensures { result.items ≡ map certified_row (wires_in wires.now).wires }
 {
-    let wires = wires.rows.as_slice();
+    let wires = &wires.rows[..usize::from(wires.shape.count)];
     let mut rows = ArrayVec::new();
     for wire in wires {
         rows.push(CertificateRow::from(*wire));

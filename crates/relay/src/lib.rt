@@ -2,6 +2,6 @@
 #![tactic(auto)]
 
 pub mod certificate;
-mod kept;
+pub mod kept;
 pub mod relay;
 pub mod replay;

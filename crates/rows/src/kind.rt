@@ -8,9 +8,9 @@ use crate::plan::Plan;
 use crate::through::{judge_plan, run_plan};
 use fixed::row::WireRow;
 use stages::kind_set::KindSet;
-use stages::shape::{KindRefusal, RunRefusal};
+use stages::shape::{KindRefusal, RunRefusal, Shape};
 use stages::stage::Stage;
-use stages::wires::{Codes, Wires};
+use stages::wires::{Codes, WireRows};
 
 // The set that knows the plan's number alone.
 #[derive(Clone, Copy)]
@@ -25,14 +25,26 @@ impl<P: Plan> KindSet for Rows<P> {
         number == P::NUMBER
     }
 
-    fn judge(&self, number: u8, stage: Stage<'_>, wires: &[WireRow]) -> Result<Wires, KindRefusal> {
+    fn judge(
+        &self,
+        number: u8,
+        stage: Stage<'_>,
+        wires: &[WireRow],
+        after: &mut WireRows,
+    ) -> Result<Shape, KindRefusal> {
         if !self.knows(number) {
             return Err(KindRefusal::Unknown);
         }
-        judge_plan::<P>(stage, wires)
+        judge_plan::<P>(stage, wires, after)
     }
 
-    fn run(&self, number: u8, stage: Stage<'_>, codes: &[i32]) -> Result<Codes, RunRefusal> {
-        run_plan::<P>(stage, codes)
+    fn run(
+        &self,
+        number: u8,
+        stage: Stage<'_>,
+        codes: &[i32],
+        after: &mut Codes,
+    ) -> Result<(), RunRefusal> {
+        run_plan::<P>(stage, codes, after)
     }
 }

@@ -1,5 +1,5 @@
 // All outputs of a stage of rows.
-ghost use Rattle.std.specs.Prelude.{◌≡◌, ◌<◌, ◌≤◌, length};
+ghost use Rattle.std.specs.Prelude.{◌≡◌, ◌<◌, ◌≤◌, length, IfErr};
 ghost use Rattle.stages.specs.Kind.{map_ok};
 ghost use Rattle.rows.specs.Layout.{row_at, outputs_from};
 ghost use Rattle.rows.specs.Plan.{Windows};
@@ -38,15 +38,17 @@ impl<V: Evaluated> Outputs<'_, V> {
         V::output(&row, output)
     }
 
-    // Each output in turn, or the first refusal.
+    // Each output in turn, in a lent list, or the first refusal, which leaves the list as it is.
     #[tactic(auto, using(crate::specs::Outputs::outputs_more, crate::specs::Outputs::outputs_fail))]
-    pub(crate) fn all(&self) -> Result<ArrayVec<V, 64>, V::Refusal>
-        ensures { map_ok (λ v. v.items) result ≡ outputs_from (row_at (V.row_of self.now.format.scales) self.now.coefficients.layout self.now.coefficients.bytes.now self.now.inputs.now) 0 self.now.coefficients.layout.outputs }
+    pub(crate) fn all(&self, out: &mut ArrayVec<V, 64>) -> Result<(), V::Refusal>
+        ensures answer { map_ok (λ _. out.new.items) result ≡ outputs_from (row_at (V.row_of self.now.format.scales) self.now.coefficients.layout self.now.coefficients.bytes.now self.now.inputs.now) 0 self.now.coefficients.layout.outputs }
+        ensures stays { IfErr result (λ _. out.new ≡ out.old) }
     {
         let mut made = ArrayVec::new();
         for o in 0..self.coefficients.layout.outputs {
             made.push(self.one(o)?);
         }
-        Ok(made)
+        *out = made;
+        Ok(())
     }
 }

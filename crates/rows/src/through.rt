@@ -1,9 +1,9 @@
 // Stages of rows through a plan.
-ghost use Rattle.std.specs.Prelude.{◌≡◌, length};
+ghost use Rattle.std.specs.Prelude.{◌≡◌, length, IfErr};
 ghost use Rattle.stages.specs.Kind.{map_ok};
 ghost use Rattle.stages.specs.Containment.{Given, Passes};
-ghost use Rattle.stages.specs.Network.{wires_by};
-ghost use Rattle.stages.specs.Wires.{setting_in, wires_in};
+ghost use Rattle.stages.specs.Network.{stand, wires_by};
+ghost use Rattle.stages.specs.Wires.{setting_in};
 ghost use Rattle.rows.specs.Plan.{rows_kind, scales_in, plan_in};
 
 use crate::coefficients::Coefficients;
@@ -16,7 +16,7 @@ use fixed::bytes::u8_at;
 use fixed::row::WireRow;
 use stages::shape::{KindRefusal, RunRefusal, Shape};
 use stages::stage::Stage;
-use stages::wires::{Codes, Wires};
+use stages::wires::{Codes, WireRows};
 
 fn layout_in<P: Plan>(stage: Stage<'_>) -> Option<Layout>
     ensures { result ≡ plan_in P.plan (setting_in stage.entry) }
@@ -37,13 +37,15 @@ fn scales_in(stage: Stage<'_>) -> Scales
     }
 }
 
-// The wires after the stage.
+// The shape after the stage, and its wires in a lent list.
 pub(crate) fn judge_plan<'a, P: Plan>(
     stage: Stage<'a>,
     wires: &'a [WireRow],
-) -> Result<Wires, KindRefusal>
+    after: &mut WireRows,
+) -> Result<Shape, KindRefusal>
     requires { Given (setting_in stage) wires.now }
-    ensures { map_ok wires_in result ≡ wires_by (rows_kind P.plan) (setting_in stage.entry) wires.now }
+    ensures answer { map_ok (λ s. stand s after.new.items) result ≡ wires_by (rows_kind P.plan) (setting_in stage.entry) wires.now }
+    ensures stays { IfErr result (λ _. after.new ≡ after.old) }
 {
     let layout = layout_in::<P>(stage).ok_or(KindRefusal::Size)?;
     if stage.bytes.len() != 6 + 4 * usize::from(layout.numbers) {
@@ -58,22 +60,24 @@ pub(crate) fn judge_plan<'a, P: Plan>(
         },
         inputs: wires,
     };
-    let rows = outputs.all()?;
-    Ok(Wires {
-        shape: Shape {
-            count: layout.outputs,
-            word: format.scales.wy,
-            fraction: format.scales.fy,
-        },
-        rows,
+    outputs.all(after)?;
+    Ok(Shape {
+        count: layout.outputs,
+        word: format.scales.wy,
+        fraction: format.scales.fy,
     })
 }
 
 // The codes after a stage that some wires pass. `Outputs` are made as above: a function for it would have more premises than lines.
-pub(crate) fn run_plan<'a, P: Plan>(stage: Stage<'a>, codes: &'a [i32]) -> Result<Codes, RunRefusal>
+pub(crate) fn run_plan<'a, P: Plan>(
+    stage: Stage<'a>,
+    codes: &'a [i32],
+    after: &mut Codes,
+) -> Result<(), RunRefusal>
     requires passes { Passes (rows_kind P.plan) (setting_in stage) }
     requires many { length codes.now ≡ stage.before.count }
-    ensures { map_ok (λ v. v.items) result ≡ (rows_kind P.plan).code (setting_in stage.entry) codes.now }
+    ensures answer { map_ok (λ _. after.new.items) result ≡ (rows_kind P.plan).code (setting_in stage.entry) codes.now }
+    ensures stays { IfErr result (λ _. after.new ≡ after.old) }
 {
     let layout = layout_in::<P>(stage).unwrap();
     let format = RowFormat::new(scales_in(stage)).unwrap();
@@ -85,5 +89,5 @@ pub(crate) fn run_plan<'a, P: Plan>(stage: Stage<'a>, codes: &'a [i32]) -> Resul
         },
         inputs: codes,
     };
-    outputs.all()
+    outputs.all(after)
 }

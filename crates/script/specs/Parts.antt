@@ -1,5 +1,5 @@
 -- A text in parts, and lists that are read part by part. Assumes nothing.
-use Rattle.std.specs.Prelude.{ℕ, cond, List, [], ◌∷◌, ◌++◌, map, Some, None, Option, ◌==◌}
+use Rattle.std.specs.Prelude.{ℕ, cond, List, [], ◌∷◌, ◌++◌, Some, None, Option, ◌==◌}
 use Rattle.std.specs.Borrow.{Bor}
 
 -- the parts of a text, where `part` was read before it
@@ -12,9 +12,10 @@ split_from separator part (c ∷ cs) =
 abbrev pub split : ℕ → List ℕ → List (List ℕ)
 split separator text = split_from separator [] text
 
--- the bytes behind each `&[u8]`
-abbrev pub texts_of : List (Bor (List ℕ)) → List (List ℕ)
-texts_of parts = map (λ part. part.now) parts
+-- the parts of what stands behind a separator: none, where there is none
+abbrev pub parts_behind : Option (Bor (List ℕ)) → List (List ℕ)
+parts_behind None = []
+parts_behind (Some text) = split 32 text.now
 
 -- an element in front of others, if all can be read
 abbrev pub onto : {X : Type 0} → Option X → Option (List X) → Option (List X)

@@ -1,4 +1,3 @@
-pub mod Improper
 pub mod Steps
 pub mod Heads
 pub mod HeadLaws

@@ -1,7 +1,7 @@
 -- What calls that read a record or a head answer. Assumes nothing.
 use Rattle.settings.specs.declared.head.Head.{Head as Answer}
 use Rattle.settings.specs.declared.record.Record.{Record}
-use Rattle.settings.specs.Head.{Head}
+use Rattle.settings.specs.Head.{Head, input_rows}
 use Rattle.settings.specs.Records.{Split}
 
 -- the record that an answer speaks of
@@ -10,4 +10,4 @@ split_in r = record { front = r.front.now; rest = r.rest.now }
 
 -- the head that an answer speaks of
 abbrev pub head_in : Answer → Head
-head_in h = record { header = h.header.fields; inputs = h.inputs.items; rest = h.rest.now }
+head_in h = record { header = h.header.fields; inputs = input_rows h.record.now h.header.fields.inputs; rest = h.rest.now }

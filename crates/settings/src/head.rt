@@ -1,13 +1,11 @@
 // The head of a settings file: version, header and inputs.
 use crate::header::Header;
-use arrayvec::ArrayVec;
-use fixed::row::WireRow;
 
-// A header, the wires of its inputs, and the bytes that follow.
-#[derive(Drop)]
+// A header, the record that its inputs stand in, and the bytes that follow.
+#[derive(Clone, Copy)]
 pub struct Head<'a> {
     pub header: Header,
-    pub inputs: ArrayVec<WireRow, 64>,
+    record: &'a [u8],
     pub rest: &'a [u8],
 }
 

@@ -1,6 +1,7 @@
 // The inputs of a header record as wire rows.
-ghost use Rattle.std.specs.Prelude.{◌≡◌, ◌≤◌, not, position};
+ghost use Rattle.std.specs.Prelude.{◌≡◌, ◌≤◌};
 ghost use Rattle.fixed.specs.Wire.{is_proper};
+ghost use Rattle.settings.specs.Firsts.{first_failing};
 ghost use Rattle.settings.specs.Head.{input_row, input_rows};
 
 use arrayvec::ArrayVec;
@@ -31,10 +32,9 @@ pub(crate) fn inputs_in(bytes: &[u8], count: u8) -> ArrayVec<WireRow, 64>
     inputs
 }
 
-// The place of the first row that is no proper wire of the format.
-pub(crate) fn first_improper(format: Format, rows: &[WireRow]) -> Option<usize>
-    ensures { result ≡ position (λ row. not (is_proper format.word row)) rows.now }
+// The first input that is no proper wire of the format.
+pub(crate) fn first_improper(bytes: &[u8], format: Format, count: u8) -> Option<u8>
+    ensures { result ≡ first_failing (λ i. is_proper format.word (input_row bytes.now i)) 0 count }
 {
-    rows.iter()
-        .position(|row| Wire::new(format, *row).is_none())
+    (0..count).find(|input| Wire::new(format, input_row(bytes, *input)).is_none())
 }

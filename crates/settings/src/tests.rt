@@ -32,7 +32,7 @@ fn taken(rt: HostRuntime) -> Result<(), Fail> {
         high: 255,
         error: 0,
     };
-    assert!(rt; head.inputs.as_slice() == [input].as_slice());
+    assert!(rt; head.inputs().as_slice() == [input].as_slice());
     assert_eq!(rt; head.rest.len(), 2);
     Ok(())
 }

@@ -4,9 +4,9 @@ ghost use Rattle.stages.specs.Kind.{or_else};
 ghost use Rattle.std.proofs.Common.{rules};
 
 use crate::kind_set::KindSet;
-use crate::shape::{KindRefusal, RunRefusal};
+use crate::shape::{KindRefusal, RunRefusal, Shape};
 use crate::stage::Stage;
-use crate::wires::{Codes, Wires};
+use crate::wires::{Codes, WireRows};
 use fixed::row::WireRow;
 
 #[derive(Clone, Copy)]
@@ -25,21 +25,33 @@ impl<A: KindSet, B: KindSet> KindSet for Pair<A, B> {
         self.first.knows(number) || self.second.knows(number)
     }
 
-    fn judge(&self, number: u8, stage: Stage<'_>, wires: &[WireRow]) -> Result<Wires, KindRefusal> {
+    fn judge(
+        &self,
+        number: u8,
+        stage: Stage<'_>,
+        wires: &[WireRow],
+        after: &mut WireRows,
+    ) -> Result<Shape, KindRefusal> {
         let Pair { first, second } = self;
         if first.knows(number) {
-            first.judge(number, stage, wires)
+            first.judge(number, stage, wires, after)
         } else {
-            second.judge(number, stage, wires)
+            second.judge(number, stage, wires, after)
         }
     }
 
-    fn run(&self, number: u8, stage: Stage<'_>, codes: &[i32]) -> Result<Codes, RunRefusal> {
+    fn run(
+        &self,
+        number: u8,
+        stage: Stage<'_>,
+        codes: &[i32],
+        after: &mut Codes,
+    ) -> Result<(), RunRefusal> {
         let Pair { first, second } = self;
         if first.knows(number) {
-            first.run(number, stage, codes)
+            first.run(number, stage, codes, after)
         } else {
-            second.run(number, stage, codes)
+            second.run(number, stage, codes, after)
         }
     }
 }

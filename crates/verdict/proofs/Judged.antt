@@ -1,6 +1,9 @@
 -- What a stage answers, as calls tell it.
-use Rattle.std.proofs.Common.{◌≡◌, ℕ, ◌≤◌, List, length, get_or, ℤ, Ok, Err, Result, sym, refl, ap, ◌∙◌, arith}
+use Rattle.std.proofs.Common.{◌≡◌, ℕ, ◌≤◌, List, length, get_or, ℤ, Ok, Err, Result, sym, refl, ap, ◌∙◌, subst, arith}
 use Rattle.fixed.proofs.Chains.{then_ok}
+use Rattle.fixed.specs.declared.row.WireRow.{WireRow}
+use Rattle.stages.specs.declared.shape.Shape.{Shape}
+use Rattle.stages.specs.declared.shape.KindRefusal.{KindRefusal}
 use Rattle.stages.specs.declared.shape.RunRefusal.{RunRefusal}
 use Rattle.stages.specs.Kind.{setting, Kinds, map_ok}
 use Rattle.stages.specs.Network.{kind_in, Stand, stand, wires_after}
@@ -15,9 +18,24 @@ pub map-ok : {A B E : Type 0} (f : A → B) (r : Result A E) (y : B) → ◌≡�
 map-ok f (Ok x) y e = (x, refl, cc)
 map-ok f (Err d) y e = let z : ◌≡◌ {A = ℕ} 0 1 = cc in absurd (omega arith)
 
+pub map-err : {A B E : Type 0} (f : A → B) (r : Result A E) (d : E) → ◌≡◌ {A = Result B E} (Err d) (map_ok f r) → r ≡ Err d
+map-err f (Ok x) d e = let z : ◌≡◌ {A = ℕ} 0 1 = cc in absurd (omega arith)
+map-err f (Err c) d e = let s : c ≡ d = cc in ap Err s
+
 ran-ok : {A : Type 0} (r : Result A RunRefusal) (y : A) → ran r ≡ Ok y → r ≡ Ok y
 ran-ok (Ok x) y e = let s : x ≡ y = cc in ap Ok s
 ran-ok (Err d) y e = let z : ◌≡◌ {A = ℕ} 0 1 = cc in absurd (omega arith)
+
+-- the wires that a kind gave stand in the shape that it told
+pub judged-in : (m : Kinds) → LawfulSet m → (a : ℕ) (b : List ℕ) (st : Stand) (s : Shape) (ys : List WireRow) → 16 ≤ a → a ≤ 56 → Stands st.shape st.wires
+    → ◌≡◌ {A = Result Stand KindRefusal} (Ok (stand s ys)) (wires_after m a b st) → Stands s ys
+judged-in m law a b st s ys g h stands w =
+    let t = setting b a st.shape in
+    let kind = kind_in m b in
+    let wires = then_ok (kind.wires t st.wires) (λ zs. Ok (stand (kind.after t) zs)) (stand s ys) (sym w) in
+    let at : stand (kind.after t) wires.0 ≡ stand s ys = cc wires.2 in
+    let given : Given t st.wires = record { accumulator_least = g; accumulator_most = h; stands = stands } in
+    subst (λ (e : Stand). Stands e.shape e.wires) at ((lawful-at (m (get_or b 0 0)) (law (get_or b 0 0))).leads t st.wires wires.0 given wires.1).stands
 
 -- there is a code for each wire after a stage
 pub codes-many : (m : Kinds) → LawfulSet m → (a k : ℕ) (b : List ℕ) (st en : Stand) (cs ds : List ℤ) → 16 ≤ a → a ≤ 56 → Stands st.shape st.wires

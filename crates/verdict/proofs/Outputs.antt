@@ -41,7 +41,7 @@ passing m h cs en (Ok b) r f p q =
     by (Ok ds) s same = ap (λ (t : Shape). Ok (output_with h.header t ds)) same
     by (Err d) s same = refl
 
-pass-is-output : (m : Kinds) (h : Head) (cs : List ℤ) → frame_fault h.inputs cs ≡ None
+pub pass-is-output : (m : Kinds) (h : Head) (cs : List ℤ) → frame_fault h.inputs cs ≡ None
     → output_in m (loaded_from m (Ok h)) cs ≡ settled (loaded_from m (Ok h)) (frame_pass m h.header h.rest (frame (inputs_in h) cs))
 pass-is-output m h cs fault = by (wires_from m a h.rest 0 n (inputs_in h)) refl
   where
@@ -82,7 +82,7 @@ pass-is-output m h cs fault = by (wires_from m a h.rest 0 n (inputs_in h)) refl
             let z : ◌≡◌ {A = ℕ} 0 1 = cc (w, e) in absurd (omega arith)
 
 -- a fault of the codes is told where there is a file
-fault-is-output : (m : Kinds) (h : Head) (cs : List ℤ) (e : Refusal) → frame_fault h.inputs cs ≡ Some e
+pub fault-is-output : (m : Kinds) (h : Head) (cs : List ℤ) (e : Refusal) → frame_fault h.inputs cs ≡ Some e
     → output_in m (loaded_from m (Ok h)) cs ≡ Err (unless_none (loaded_from m (Ok h)) e)
 fault-is-output m h cs e fault = by (verdict_from m h)
   where

@@ -2,6 +2,7 @@ pub mod Stages
 pub mod Opened
 pub mod Frames
 pub mod Verdict
+pub mod Table
 pub mod Line
 pub mod Certificate
 pub mod Running

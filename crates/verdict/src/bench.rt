@@ -14,31 +14,34 @@ use crate::network::opens::open;
 use crate::stage::stage_at;
 use settings::refusal::Refusal;
 use stages::kind_set::KindSet;
-use stages::wires::Wires;
+use stages::wires::{Codes, Wires};
 
 // A stage by its record, with the wires that stand before it.
 fn try_stage<K: KindSet>(
     network: &Network<'_, K>,
     k: u8,
-    before: &Wires,
+    before: Wires,
     codes: &[i32],
     out: &mut [i32],
 ) -> Result<usize, Refusal>
     requires { k < 16 }
-    ensures answer { result ≡ map_ok length (tried (K.meaning network.now.kinds.now) network.now.header.fields.accumulator (k + 1) (wires_in before.now) codes.now (length out.old) (stage_at network.now.records.now k)) }
-    ensures buffer { out.new ≡ over (tried (K.meaning network.now.kinds.now) network.now.header.fields.accumulator (k + 1) (wires_in before.now) codes.now (length out.old) (stage_at network.now.records.now k)) out.old }
+    ensures answer { result ≡ map_ok length (tried (K.meaning network.now.kinds.now) network.now.header.fields.accumulator (k + 1) (wires_in before) codes.now (length out.old) (stage_at network.now.records.now k)) }
+    ensures buffer { out.new ≡ over (tried (K.meaning network.now.kinds.now) network.now.header.fields.accumulator (k + 1) (wires_in before) codes.now (length out.old) (stage_at network.now.records.now k)) out.old }
 {
     if codes.len() != usize::from(before.shape.count) {
         return Err(Refusal::CodeCount);
     }
     let split = stage_at(network.records, k).ok_or(Refusal::NoFile)?;
-    let Ok(after) = network.judge_record(k, split.front, before) else {
+    let shape = before.shape;
+    let mut wires = before;
+    let Ok(()) = network.judge_record(k, split.front, &mut wires) else {
         return Err(Refusal::NoFile);
     };
-    if out.len() < usize::from(after.shape.count) {
+    if out.len() < usize::from(wires.shape.count) {
         return Err(Refusal::ShortBuffer);
     }
-    let made = network.run_record(split.front, before.shape, codes)?;
+    let mut made = Codes::new();
+    network.run_record(split.front, shape, codes, &mut made)?;
     write_front(made.as_slice(), out)
 }
 
@@ -68,5 +71,5 @@ pub fn bench_of<K: KindSet>(
     let Ok(before) = network.judge_stages(k, inputs) else {
         return Err(Refusal::NoFile);
     };
-    try_stage(&network, k, &before, codes, out)
+    try_stage(&network, k, before, codes, out)
 }

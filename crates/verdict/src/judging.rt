@@ -13,7 +13,7 @@ use settings::refusal::Refusal;
 use stages::kind_set::KindSet;
 use stages::shape::{KindRefusal, Shape};
 use stages::stage::Stage;
-use stages::wires::Wires;
+use stages::wires::{WireRows, Wires};
 
 // The refusal of a kind, at a stage. It is no `From`: the stage is not in the kind's refusal.
 fn refused_at(stage: u8, why: KindRefusal) -> Refusal
@@ -43,24 +43,29 @@ impl<K: KindSet> Network<'_, K> {
         }
     }
 
-    // One stage, by its record. Here a stage is asked for by its index, below 16 as the header says; a type for the index would be
-    // made and taken apart at each step.
-    pub(crate) fn judge_record(&self, k: u8, bytes: &[u8], before: &Wires) -> Result<Wires, Refusal>
+    // One stage, by its record: the wires after it take the place of those before it. Here a stage is asked for by its index, below 16 as
+    // the header says; a type for the index would be made and taken apart at each step.
+    pub(crate) fn judge_record(&self, k: u8, bytes: &[u8], wires: &mut Wires) -> Result<(), Refusal>
         requires { k < 16 }
-        ensures { map_ok wires_in result ≡ at_stage (k + 1) (wires_after (K.meaning self.now.kinds.now) self.now.header.fields.accumulator bytes.now (wires_in before.now)) }
+        ensures { map_ok (λ _. wires_in wires.new) result ≡ at_stage (k + 1) (wires_after (K.meaning self.now.kinds.now) self.now.header.fields.accumulator bytes.now (wires_in wires.old)) }
     {
-        let stage = self.stage(bytes, before.shape);
-        self.kinds
-            .judge(u8_at(bytes, 0), stage, before.rows.as_slice())
-            .map_err(|why| refused_at(k + 1, why))
+        let stage = self.stage(bytes, wires.shape);
+        let mut rows = WireRows::new();
+        let shape = self
+            .kinds
+            .judge(u8_at(bytes, 0), stage, wires.rows.as_slice(), &mut rows)
+            .map_err(|why| refused_at(k + 1, why))?;
+        wires.shape = shape;
+        wires.rows = rows;
+        Ok(())
     }
 
-    fn judge_stage(&self, k: u8, before: &Wires) -> Result<Wires, Refusal>
+    fn judge_stage(&self, k: u8, wires: &mut Wires) -> Result<(), Refusal>
         requires { k < 16 }
-        ensures { map_ok wires_in result ≡ wires_past (K.meaning self.now.kinds.now) self.now.header.fields.accumulator (k + 1) (wires_in before.now) (stage_at self.now.records.now k) }
+        ensures { map_ok (λ _. wires_in wires.new) result ≡ wires_past (K.meaning self.now.kinds.now) self.now.header.fields.accumulator (k + 1) (wires_in wires.old) (stage_at self.now.records.now k) }
     {
         let split = stage_at(self.records, k).ok_or(Refusal::RecordLength { stage: k + 1 })?;
-        self.judge_record(k, split.front, before)
+        self.judge_record(k, split.front, wires)
     }
 
     // The first stages, from the wires of the inputs on.
@@ -70,7 +75,7 @@ impl<K: KindSet> Network<'_, K> {
     {
         let mut wires = inputs;
         for k in 0..stages {
-            wires = self.judge_stage(k, &wires)?;
+            self.judge_stage(k, &mut wires)?;
         }
         Ok(wires)
     }

@@ -1,5 +1,5 @@
 // The codes after a stage of a file.
-ghost use Rattle.std.specs.Prelude.{◌≡◌, length};
+ghost use Rattle.std.specs.Prelude.{◌≡◌, length, IfErr};
 ghost use Rattle.stages.specs.Containment.{Passes};
 ghost use Rattle.stages.specs.Kind.{setting, map_ok};
 ghost use Rattle.stages.specs.Network.{kind_in};
@@ -23,19 +23,21 @@ fn run_refusal(why: RunRefusal) -> Refusal
 }
 
 impl<K: KindSet> Network<'_, K> {
-    // One stage that some wires pass, by its record.
+    // One stage that some wires pass, by its record: its codes in a lent list, which a refusal leaves as it is.
     pub(crate) fn run_record(
         &self,
         bytes: &[u8],
         before: Shape,
         codes: &[i32],
-    ) -> Result<Codes, Refusal>
+        after: &mut Codes,
+    ) -> Result<(), Refusal>
         requires passes { Passes (kind_in (K.meaning self.now.kinds.now) bytes.now) (setting bytes.now self.now.header.fields.accumulator before) }
         requires many { length codes.now ≡ before.count }
-        ensures { map_ok (λ v. v.items) result ≡ ran (codes_by (K.meaning self.now.kinds.now) self.now.header.fields.accumulator bytes.now before codes.now) }
+        ensures answer { map_ok (λ _. after.new.items) result ≡ ran (codes_by (K.meaning self.now.kinds.now) self.now.header.fields.accumulator bytes.now before codes.now) }
+        ensures stays { IfErr result (λ _. after.new ≡ after.old) }
     {
         self.kinds
-            .run(u8_at(bytes, 0), self.stage(bytes, before), codes)
+            .run(u8_at(bytes, 0), self.stage(bytes, before), codes, after)
             .map_err(|why| run_refusal(why))
     }
 }

@@ -1,19 +1,19 @@
-// The wires after a stage of a file.
-ghost use Rattle.std.specs.Prelude.{◌≡◌};
-ghost use Rattle.stages.specs.Kind.{map_ok};
-ghost use Rattle.stages.specs.Wires.{wires_in};
-ghost use Rattle.verdict.specs.Verdict.{wires_up_to};
+// Wires after a stage, as callers hold them.
+ghost use Rattle.std.specs.Prelude.{take};
+ghost use Rattle.stages.specs.Containment.{Stands};
+ghost use Rattle.stages.specs.Facts.{stands-prop};
 
-use crate::network::opens::open;
-use settings::refusal::Refusal;
-use stages::kind_set::KindSet;
-use stages::wires::Wires;
+use fixed::row::WireRow;
+use stages::shape::Shape;
 
-// Stage 0 is the inputs, and a number past the last stage is the last.
-pub fn wires_after<K: KindSet>(kinds: &K, file: &[u8], stage: u8) -> Result<Wires, Refusal>
-    ensures { map_ok wires_in result ≡ wires_up_to (K.meaning kinds.now) file.now stage }
-{
-    let (network, inputs) = open(kinds, file)?;
-    let stages = stage.min(network.fields().stages);
-    network.judge_stages(stages, inputs)
+// Wires in front of a table, as many as their shape says; they stand in it.
+#[derive(Clone, Copy)]
+pub struct Wires {
+    pub shape: Shape,
+    pub rows: [WireRow; 64],
+    ghost stands: { Stands shape (take shape.count rows) } by { stands-prop shape (take shape.count rows) },
 }
+
+mod after;
+
+pub use after::wires_after;

@@ -2,7 +2,7 @@
 ghost use Rattle.std.specs.Prelude.{◌≡◌, ◌+◌, ◌*◌, drop, IfOk};
 ghost use Rattle.std.specs.Result.{result_map_both};
 ghost use Rattle.settings.specs.Records.{split_record};
-ghost use Rattle.settings.specs.Head.{records_of, header_record, limited_fields, checked_inputs, head_of};
+ghost use Rattle.settings.specs.Head.{input_rows, records_of, header_record, limited_fields, checked_inputs, head_of};
 ghost use Rattle.settings.specs.HeadLaw.{HeadLaw};
 ghost use Rattle.settings.specs.Answer.{split_in, head_in};
 
@@ -17,6 +17,15 @@ use fixed::row::WireRow;
 
 // The largest file in bytes.
 pub const MOST_BYTES: usize = 65_536;
+
+impl Head<'_> {
+    // The wires of the inputs, as the header counts them.
+    pub fn inputs(&self) -> ArrayVec<WireRow, 64>
+        ensures { result.items ≡ (head_in self.now).inputs }
+    {
+        inputs_in(self.record, self.header.fields().inputs)
+    }
+}
 
 // The records of a file of version 1.
 fn records(file: &[u8]) -> Result<&[u8], Refusal>
@@ -51,14 +60,13 @@ fn header_in(bytes: &[u8]) -> Result<Header, Refusal>
     Header::new(Fields::read(bytes)).ok_or(Refusal::HeaderField)
 }
 
-// The wires of a header's inputs, if each of them is proper.
-fn checked_inputs(bytes: &[u8], header: Header) -> Result<ArrayVec<WireRow, 64>, Refusal>
-    ensures { result_map_both (λ v. v.items) (λ e. e) result ≡ checked_inputs bytes.now header.fields }
+// Refuses the first of a header's inputs that is not proper.
+fn checked_inputs(bytes: &[u8], header: Header) -> Result<(), Refusal>
+    ensures { result_map_both (λ _. input_rows bytes.now header.fields.inputs) (λ e. e) result ≡ checked_inputs bytes.now header.fields }
 {
-    let inputs = inputs_in(bytes, header.fields().inputs);
-    match first_improper(header.format(), inputs.as_slice()) {
-        Some(input) => Err(Refusal::InputWire { input: input as u8 }),
-        None => Ok(inputs),
+    match first_improper(bytes, header.format(), header.fields().inputs) {
+        Some(input) => Err(Refusal::InputWire { input }),
+        None => Ok(()),
     }
 }
 
@@ -71,10 +79,10 @@ pub fn read_head(file: &[u8]) -> Result<Head<'_>, Refusal>
 {
     let Record { front, rest } = header_record(records(file)?)?;
     let header = header_in(front)?;
-    let inputs = checked_inputs(front, header)?;
+    checked_inputs(front, header)?;
     Ok(Head {
         header,
-        inputs,
+        record: front,
         rest,
     })
 }

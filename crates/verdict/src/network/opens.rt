@@ -9,7 +9,6 @@ ghost use Rattle.verdict.specs.Verdict.{shape_in};
 
 use super::Network;
 use settings::fields::Fields;
-use settings::head::Head;
 use settings::head::reads::read_head;
 use settings::refusal::Refusal;
 use stages::kind_set::KindSet;
@@ -37,24 +36,17 @@ pub(crate) fn open<'a, K: KindSet>(
     ensures shape { IfOk result (λ o. o.1.shape ≡ shape_in o.0.header.fields) }
     ensures kinds { IfOk result (λ o. o.0.kinds.now ≡ kinds.now) }
 {
-    let Head {
-        header,
-        inputs,
-        rest,
-    } = read_head(file)?;
-    let shape = input_shape(header.fields());
+    let head = read_head(file)?;
     let network = Network {
         kinds,
-        header,
-        records: rest,
+        header: head.header,
+        records: head.rest,
     };
-    Ok((
-        network,
-        Wires {
-            shape,
-            rows: inputs,
-        },
-    ))
+    let inputs = Wires {
+        shape: input_shape(head.header.fields()),
+        rows: head.inputs(),
+    };
+    Ok((network, inputs))
 }
 
 impl<K: KindSet> Network<'_, K> {

@@ -1,10 +1,10 @@
 use Rattle.std.proofs.Common.{rules, ◌≡◌, ℕ, length, Some, Ok, Err, Result, sym, ap, ◌∙◌, arith}
 use Rattle.stages.specs.Kind.{map_ok, over}
 use Rattle.stages.specs.Network.{Stand}
-use Rattle.stages.specs.Wires.{wires_in}
 use Rattle.settings.specs.declared.refusal.Refusal.{Refusal}
 use Rattle.verdict.specs.Front.{fitting}
 use Rattle.verdict.specs.Loaded.{fields_in, loaded_in}
+use Rattle.verdict.specs.Table.{wires_in}
 use Rattle.relay.specs.Certificate.{rows_for}
 use Rattle.relay.proofs.Accepted.{certifies, same-wires}
 use Rattle.relay.proofs.certificate.certificate_of.Goals as goal

@@ -1,6 +1,6 @@
 use Rattle.std.proofs.Common.{◌≡◌, codes, arith, rules}
 use Rattle.std.proofs.lemmas.Slice.Eq.{text_from_reads}
-use Rattle.script.specs.Parts.{texts_of}
+use Rattle.script.specs.Parts.{parts_behind}
 use Rattle.script.proofs.Words.{call_by_none}
 use Rattle.script.proofs.line.read_call.Goals as goal
 
@@ -11,7 +11,7 @@ returns-in-certificate c =
 
 pub returns-in_default : goal.returns-in_default
 returns-in_default c =
-    let none = call_by_none c.args.word.now (texts_of c.args.parts.now) in
+    let none = call_by_none c.args.word.now (parts_behind c.args.behind) in
     elim c.in_default.branch [
       | goal.in_default-via-then-word-lt4 w ↦ none (search rules)
       | goal.in_default-via-else-word-lt4+then-word-lt5+in-108+in-111+in-97+in_default-1 w ↦ none (search rules)

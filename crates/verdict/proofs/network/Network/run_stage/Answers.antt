@@ -3,12 +3,10 @@ use Rattle.stages.specs.Wires.{wires_in}
 use Rattle.verdict.proofs.Judged.{codes-many}
 use Rattle.verdict.proofs.network.Network.run_stage.Goals as goal
 
-pub invariant_of-result : goal.invariant_of-result
-invariant_of-result g c =
-    let before = c.args.frame.now in
+pub returns-clause-many : goal.returns-clause-many
+returns-clause-many g c =
+    let before = c.args.wires.now in
     let words = c.args.self.now.header.words in
-    record {
-      many = codes-many _ (g.met.K.KindSet.lawful c.args.self.now.kinds.now) c.args.self.now.header.fields.accumulator
-          (c.args.k + 1) c.in_ok-split.split.front.now (wires_in before.wires) (wires_in c.in_ok-wires.wires) c.as_slice.result.now c.in_ok-codes.codes.items
-          words.1 words.2 before.wires.stands c.in_ok-wires.ensures (ap length c.as_slice.ensures.value ∙ before.many) c.in_ok-codes.ensures;
-    }
+    codes-many _ (g.met.K.KindSet.lawful c.args.self.now.kinds.now) c.args.self.now.header.fields.accumulator
+    (c.args.k + 1) c.in_ok-split.split.front.now (wires_in before) (wires_in c.judge_record.new.wires) c.as_slice.result.now c.run_record.new.after.items
+    words.1 words.2 before.stands c.in_ok-judge_record.ensures (ap length c.as_slice.ensures.value ∙ c.requires.many) c.in_ok-run_record.ensures.answer
