@@ -1,4 +1,5 @@
-// What the kinds do to a list: the outputs take the place of what stood in a lent one. That at most 64 signals come of it is a premise: a type for so short a slice would be made at each call.
+// What the kinds do to a list: the outputs take the place of what stood in a lent one. That at most 64 signals come of it is a
+// premise: a type for so short a slice would be made at each call.
 ghost use Rattle.std.specs.Prelude.{◌≡◌, ◌*◌, ◌≤◌, map, length};
 ghost use Rattle.std.specs.List.{reduce};
 ghost use Rattle.keeping.specs.Lists.{pooled, repeated};

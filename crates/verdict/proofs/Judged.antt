@@ -26,26 +26,29 @@ ran-ok : {A : Type 0} (r : Result A RunRefusal) (y : A) → ran r ≡ Ok y → r
 ran-ok (Ok x) y e = let s : x ≡ y = cc in ap Ok s
 ran-ok (Err d) y e = let z : ◌≡◌ {A = ℕ} 0 1 = cc in absurd (omega arith)
 
+-- what a kind was given and gave, where a stage passed
+passed-by : (m : Kinds) (a : ℕ) (b : List ℕ) (st en : Stand) → 16 ≤ a → a ≤ 56 → Stands st.shape st.wires
+    → ◌≡◌ {A = Result Stand KindRefusal} (Ok en) (wires_after m a b st)
+    → (ys : List WireRow) × Given (setting b a st.shape) st.wires × ((kind_in m b).wires (setting b a st.shape) st.wires ≡ Ok ys) × (stand ((kind_in m b).after (setting b a st.shape)) ys ≡ en)
+passed-by m a b st en g h stands w =
+    let s = setting b a st.shape in
+    let kind = kind_in m b in
+    let wires = then_ok (kind.wires s st.wires) (λ ys. Ok (stand (kind.after s) ys)) en (sym w) in
+    (wires.0, record { accumulator_least = g; accumulator_most = h; stands = stands }, wires.1, cc wires.2)
+
 -- the wires that a kind gave stand in the shape that it told
 pub judged-in : (m : Kinds) → LawfulSet m → (a : ℕ) (b : List ℕ) (st : Stand) (s : Shape) (ys : List WireRow) → 16 ≤ a → a ≤ 56 → Stands st.shape st.wires
     → ◌≡◌ {A = Result Stand KindRefusal} (Ok (stand s ys)) (wires_after m a b st) → Stands s ys
 judged-in m law a b st s ys g h stands w =
-    let t = setting b a st.shape in
-    let kind = kind_in m b in
-    let wires = then_ok (kind.wires t st.wires) (λ zs. Ok (stand (kind.after t) zs)) (stand s ys) (sym w) in
-    let at : stand (kind.after t) wires.0 ≡ stand s ys = cc wires.2 in
-    let given : Given t st.wires = record { accumulator_least = g; accumulator_most = h; stands = stands } in
-    subst (λ (e : Stand). Stands e.shape e.wires) at ((lawful-at (m (get_or b 0 0)) (law (get_or b 0 0))).leads t st.wires wires.0 given wires.1).stands
+    let p = passed-by m a b st (stand s ys) g h stands w in
+    let leads = (lawful-at (m (get_or b 0 0)) (law (get_or b 0 0))).leads (setting b a st.shape) st.wires p.0 p.1 p.2 in
+    subst (λ (e : Stand). Stands e.shape e.wires) p.3 leads.stands
 
 -- there is a code for each wire after a stage
 pub codes-many : (m : Kinds) → LawfulSet m → (a k : ℕ) (b : List ℕ) (st en : Stand) (cs ds : List ℤ) → 16 ≤ a → a ≤ 56 → Stands st.shape st.wires
     → ◌≡◌ {A = Result Stand Refusal} (Ok en) (at_stage k (wires_after m a b st)) → length cs ≡ st.shape.count
     → ◌≡◌ {A = Result (List ℤ) Refusal} (Ok ds) (ran (codes_by m a b st.shape cs)) → length ds ≡ en.shape.count
 codes-many m law a k b st en cs ds g h stands w many r =
-    let s = setting b a st.shape in
-    let kind = kind_in m b in
-    let wires = then_ok (kind.wires s st.wires) (λ ys. Ok (stand (kind.after s) ys)) en (at_ok k (wires_after m a b st) en (sym w)) in
-    let at : stand (kind.after s) wires.0 ≡ en = cc wires.2 in
-    let given : Given s st.wires = record { accumulator_least = g; accumulator_most = h; stands = stands } in
-    (lawful-at (m (get_or b 0 0)) (law (get_or b 0 0))).code_counts s st.wires wires.0 given wires.1 cs ds many (ran-ok _ ds (sym r))
-    ∙ ap (λ (t : Stand). t.shape.count) at
+    let p = passed-by m a b st en g h stands (sym (at_ok k (wires_after m a b st) en (sym w))) in
+    (lawful-at (m (get_or b 0 0)) (law (get_or b 0 0))).code_counts (setting b a st.shape) st.wires p.0 p.1 p.2 cs ds many (ran-ok _ ds (sym r))
+    ∙ ap (λ (t : Stand). t.shape.count) p.3

@@ -1,5 +1,5 @@
 // The wires after the stages of a file.
-ghost use Rattle.std.specs.Prelude.{◌≡◌, ◌+◌, ◌<◌, ◌≤◌};
+ghost use Rattle.std.specs.Prelude.{◌≡◌, ◌+◌, ◌<◌, ◌≤◌, IfErr};
 ghost use Rattle.stages.specs.Kind.{setting, map_ok};
 ghost use Rattle.stages.specs.Network.{wires_after};
 ghost use Rattle.stages.specs.Wires.{setting_in, wires_in};
@@ -43,11 +43,12 @@ impl<K: KindSet> Network<'_, K> {
         }
     }
 
-    // One stage, by its record: the wires after it take the place of those before it. Here a stage is asked for by its index, below 16 as
-    // the header says; a type for the index would be made and taken apart at each step.
+    // One stage, by its record: the wires after it take the place of those before it, which a refusal leaves. Here a stage is asked for by
+    // its index, below 16 as the header says; a type for the index would be made and taken apart at each step.
     pub(crate) fn judge_record(&self, k: u8, bytes: &[u8], wires: &mut Wires) -> Result<(), Refusal>
         requires { k < 16 }
-        ensures { map_ok (λ _. wires_in wires.new) result ≡ at_stage (k + 1) (wires_after (K.meaning self.now.kinds.now) self.now.header.fields.accumulator bytes.now (wires_in wires.old)) }
+        ensures answer { map_ok (λ _. wires_in wires.new) result ≡ at_stage (k + 1) (wires_after (K.meaning self.now.kinds.now) self.now.header.fields.accumulator bytes.now (wires_in wires.old)) }
+        ensures stays { IfErr result (λ _. wires.new ≡ wires.old) }
     {
         let stage = self.stage(bytes, wires.shape);
         let mut rows = WireRows::new();
@@ -62,7 +63,8 @@ impl<K: KindSet> Network<'_, K> {
 
     fn judge_stage(&self, k: u8, wires: &mut Wires) -> Result<(), Refusal>
         requires { k < 16 }
-        ensures { map_ok (λ _. wires_in wires.new) result ≡ wires_past (K.meaning self.now.kinds.now) self.now.header.fields.accumulator (k + 1) (wires_in wires.old) (stage_at self.now.records.now k) }
+        ensures answer { map_ok (λ _. wires_in wires.new) result ≡ wires_past (K.meaning self.now.kinds.now) self.now.header.fields.accumulator (k + 1) (wires_in wires.old) (stage_at self.now.records.now k) }
+        ensures stays { IfErr result (λ _. wires.new ≡ wires.old) }
     {
         let split = stage_at(self.records, k).ok_or(Refusal::RecordLength { stage: k + 1 })?;
         self.judge_record(k, split.front, wires)
